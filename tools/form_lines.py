@@ -1,23 +1,22 @@
-"""The lines of the plain forms, as crates/x86_operands/specs/Forms.antt has their plans: for tools/tables.py, which writes them.
+"""The lines of forms and of groups, as their rows have them: for tools/tables.py, which writes them.
 
-A plan whose parts have no word of a line is left to `separate_plan`.
+Rows that no line has the words for stay rows: those of a plain form are its plan, and those of a reg are the group's.
 """
 
 import re
 import sys
 from pathlib import Path
 
-from group_rows import BY_REG, parsed
+from form_rows import GROUPS, PLAIN, rows_of
 
-OPERANDS = Path(__file__).resolve().parent.parent / "crates" / "x86_operands"
 FORMS = Path(__file__).resolve().parent.parent / "crates" / "x86_forms"
-RESTRICTED = {"memory_only": "Memory", "register_only": "Registers", "form_by_opcode": "FormByOpcode"}
-CLASSES = {"v_class": "V", "vq_class": "Vq", "vd_class": "Vd", "dq_class": "Dq"}
-LASTS = {"I8": "I8", "U8": "U8", "U16": "U16", "I32": "I32", "cl_third": "ClThird"}
-LASTS_BY = {"immediate_of": "Iv", "whole_immediate": "Ivq", "push_immediate": "Ip"}
-CONSTANTS = {"1": "UnsignedOne", "3": "Three"}
-SIZES = {"0": "Zero", "1": "One", "2": "Two", "4": "Four", "8": "Eight", "16": "Sixteen"}
-SIZES_BY = {"v_size": "V", "width_of": "Dq", "call_size": "Call"}
+# the groups that reg chooses, in the order of `RegGroup`
+BY_REG = ["80", "81", "83", "c0", "c1", "c6", "c7", "d0", "d1", "d2", "d3", "f6", "f7", "fe", "ff"]
+HALVES = [["Opcode", "MOVLPD"], ["Opcode", "MOVHPD"]]  # the loads that `FormByOpcode` refuses at a register form
+LASTS = {"cl": "Cl"}
+THIRD = ["Implied", "Third", "1", "class.B"]  # CL after two others
+MM = {"Gmm": ("G", "Mm"), "Emm": ("E", "Mm"), "Umm": ("E", "Mm"), "M": ("E", "B")}
+BYTES = {"Bytes(0)": "Zero", "Bytes(1)": "One", "Bytes(2)": "Two", "Bytes(4)": "Four", "Bytes(8)": "Eight", "Bytes(16)": "Sixteen"}
 NONE = "other!(ByPlan(ModrmUse::Absent))"
 
 
@@ -31,76 +30,101 @@ def word(table, key):
     return table[key]
 
 
-def width(words):
-    return word(CLASSES, words[0]) if isinstance(words, list) else words
-
-
 def operand(words):
     """The part of the order that an operand is, and its word."""
-    head = words[0] if isinstance(words, list) else words
-    if head == "z_in" and words[1] == "Reg":
-        return "Z", width(words[3])
-    if head == "accumulator_of":
-        return "A", width(words[1])
-    if head in ("G", "E", "U"):
-        return "E" if head == "U" else head, width(words[1])
-    if head in ("Gmm", "Emm", "Umm", "M"):
-        return "G" if head == "Gmm" else "E", "B" if head == "M" else "Mm"
-    if head == "ConstantU8":
-        return "I", word(CONSTANTS, words[1])
-    return "I", word(LASTS_BY if isinstance(words, list) else LASTS, head)
-
-
-def sizes(words):
-    """The memory size in the memory form, and in the register form."""
     if isinstance(words, str):
-        return [word(SIZES, words)] * 2
-    if words[0] == "or_v":
-        return [sizes(words[1])[0], "V"]
-    if words[0] == "size_by":
-        return [sizes(words[2])[0], sizes(words[3])[0]]
-    if words[0] == "named_size":
-        return [words[1].removeprefix("size.")] * 2
-    return [word(SIZES_BY, words[0])] * 2
+        return MM[words] if words in MM else ("I", word(LASTS, words))
+    head, *of = words
+    if head == "Last":
+        return "I", of[0].removeprefix("last.")
+    if words == THIRD:
+        return "I", "ClThird"
+    if head == "Z" and of[0] == "Reg":
+        return "Z", of[1]
+    return word({"A": "A", "G": "G", "E": "E", "U": "E"}, head), of[0]
 
 
-def line(plan, use):
-    """The line of a plan, with what follows the opcode byte where no restriction says it."""
-    words = parsed(re.findall(r"[()]|[^\s()]+", plan))
-    after = RESTRICTED.get(words[0], "EitherForm")
-    if words[0] in RESTRICTED:
-        words = words[2]
-    if words[:2] != ["reads", "o"]:
-        raise Separate(words[0])
-    parts = [operand(each) for each in words[2][1:]] if isinstance(words[2], list) else []
+def size(text):
+    """The word of a size."""
+    of = re.fullmatch(r"Of\((V|Dq)\)|Named\(Size::(\w+)\)", text)
+    return of[1] or of[2] if of else word(BYTES, text)
+
+
+def after_opcode(rows):
+    """What follows the opcode byte, where the rows say no more than that of the one that is read."""
+    *others, last = rows
+    first = rows[0]
+    if not others:
+        return {"Either": "EitherForm", "Bare": "Nothing"}.get(last.place)
+    if [each.when for each in others] == HALVES and last.place == "Either":
+        halves = [(each.place, each.reg, each.operands, each.error) for each in others]
+        return "FormByOpcode" if halves == [("Register", "Any", last.operands, "BadOperand AtModRM")] * 2 else None
+    if others == [first] and (last.place, last.reg, last.when, last.operands) == ("Either", "Any", "Always", first.operands):
+        restricted = {("Memory", "BadOperand AtModRM"): "Memory", ("Register", "BadOperand AfterAddress"): "Registers"}
+        return restricted.get((first.place, last.error))
+    return None
+
+
+def encoding(after, operands, sizes):
+    """The words of `encoded!`: what follows the opcode byte, the order, the widths of reg and rm, the last operand and the sizes."""
+    parts = [operand(each) for each in operands[1:]] if isinstance(operands, list) else []
     of = dict(parts)
-    if use == "Absent":
+    if after == "Nothing":
         after = {"Z": "Opcode", "A": "Accumulator"}.get(next((part for part in "ZA" if part in of), ""), "Nothing")
     reg = of.get("Z") or of.get("A") or of.get("G") or "B"
     order = "_".join("R" if part in "ZA" else part for part, _ in parts) or "NO"
-    return f"encoded!({after} {order} {reg} {of.get('E', 'B')} {of.get('I', 'Absent')} {' '.join(sizes(words[3]))})"
+    return f"{after} {order} {reg} {of.get('E', 'B')} {of.get('I', 'Absent')} {' '.join(sizes)}"
+
+
+def line(rows):
+    """The line of a plain form."""
+    read = [each for each in rows if each.error is None]
+    after = after_opcode(rows)
+    if after is None or [(each.reg, each.rm, each.when, each.names, each.change) for each in read] != [("Any", "Any", "Always", "Own", None)]:
+        raise Separate(rows[0].text)
+    return f"encoded!({encoding(after, read[0].operands, map(size, read[0].sizes))})"
 
 
 def lines(forms):
     """The lines of src/lines.rt, for the forms in their order, each with whether it carries a number."""
-    text = (OPERANDS / "specs" / "Forms.antt").read_text()
-    rows = re.findall(r"^\w+_row \(?form\.(\w+)(?: n\))? = (\w+)_modrm \(λ [^.]*\. (.*)\)$", text, re.M)
-    plans = {form: plan for form, _, plan in rows}
-    bare = {form for form, kind, _ in rows if kind == "without"}
+    rows = rows_of(PLAIN)
     groups = {*re.findall(r"^is_group form\.(\w+) = true$", (FORMS / "specs" / "Groups.antt").read_text(), re.M)}
     answer = [f"    {NONE}, // the number 0, which no form has"]
-    for form, carries in forms:
-        use = "Absent" if form in bare else "EitherForm"
+    for form, carries in forms.items():
         name = form.removeprefix("ModRM_0x")
         if form in groups:
             by_reg = f"G{name}" if name[0] in "89" else name.upper()
             written = f"other!(ByReg(RegGroup::{by_reg}))" if name in BY_REG else "other!(Group)"
         else:
-            if form not in plans:
-                sys.exit(f"tables.py: {form} has no plan in specs/Forms.antt of x86_operands")
+            if form not in rows:
+                sys.exit(f"tables.py: {form} has no rows in specs/Rows.antt of x86_operands")
             try:
-                written = line(plans[form], use)
+                written = line(rows[form])
             except Separate:
-                written = f"other!(ByPlan(ModrmUse::{use}))"
+                written = NONE if rows[form][0].place == "Bare" else "other!(ByPlan(ModrmUse::EitherForm))"
         answer += [f"    {written}, // {form}"] * (8 if carries else 1)
     return answer
+
+
+def reg_line(rows, reg, numbers):
+    """The line of a reg, if reg alone chooses its row, or if 66 chooses between the two sizes of PUSH."""
+    here = [each for each in rows if each.is_at(reg) and each.is_named(reg, 0)]
+    first = here[0]
+    if first.error or first.place != "Either":
+        return "rows_alone!()"
+    number = numbers[first.names[1 + reg] if first.names[0] == "by_reg" else first.names[1]]
+    if first.when == "Always":
+        return f"line!({number} {encoding('EitherForm', first.operands, map(size, first.sizes))})"
+    if first.when == "With66" and here[1].when == "Always" and [first.sizes, here[1].sizes] == [("Bytes(2)",) * 2, ("Bytes(8)",) * 2]:
+        return f"line!({number} {encoding('EitherForm', first.operands, ['Push'] * 2)})"
+    return "rows_alone!()"
+
+
+def reg_lines(numbers):
+    """The lines of each reg, for src/tables.rt of x86_groups."""
+    rows = rows_of(GROUPS)
+    lines = ["", "/// The line of each reg, for the groups in the order of `RegGroup`."]
+    lines += [f"pub(crate) const REG_LINES: &[[RegLine; 8]; {len(BY_REG)}] = &["]
+    for name in BY_REG:
+        lines += ["    ["] + [f"        {reg_line(rows[f'ModRM_0x{name}'], reg, numbers)}," for reg in range(8)] + [f"    ], // {name.upper()}"]
+    return lines + ["];"]

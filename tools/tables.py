@@ -10,8 +10,10 @@ The lists, which people edit:
     crates/x86_forms/src/lib.rt                the forms, the variants of `Form`
     crates/x86_forms/specs/Rows.antt           the rows of each map, a line for each row
     crates/x86_regs/specs/Names.antt           the registers of each class
-    crates/x86_operands/specs/Forms.antt       the plans of the plain forms, a line for each form (tools/form_lines.py)
-    crates/x86_groups/specs/Rows.antt          the rows of the groups, a line for each row (tools/group_rows.py)
+    crates/x86_operands/specs/Rows.antt        the rows of the plain forms, a line for each row
+    crates/x86_groups/specs/Rows.antt          the rows of the groups, a line for each row
+
+Of the last two, tools/form_rows.py writes the tables of rows, and tools/form_lines.py the lines that say the same.
 
 Nothing rests on this script. What it writes is checked like all other code: that the constants have the numbers and
 spellings of their names, that each form is at its ordinal, and that each table has the words of the rows, is proved.
@@ -24,7 +26,7 @@ import textwrap
 from pathlib import Path
 
 import form_lines
-import group_rows
+import form_rows
 
 TOP = Path(__file__).resolve().parent.parent
 OPCODES = TOP / "crates" / "x86_opcodes"
@@ -36,7 +38,6 @@ TEXT = TOP / "crates" / "x86_text"
 
 MAPS = ["One", "Of", "Of38", "Of3a"]
 COLUMNS = ["Plain", "P66", "F3", "F2"]
-UNDECIDED = 63  # the size that means one that the processor decides
 CARRIED = 8  # how many numbers a form with a field can carry
 PART = 128  # how many constants a table has: a proof over a table of texts takes time by the square of its length
 NOTE = ["Written by tools/tables.py from {}.", "The proof doesn't rest on that script: a wrong entry is refused."]
@@ -69,6 +70,11 @@ def names():
     """The opcodes in the order of their numbers, each named as it is spelled."""
     text = (OPCODES / "specs" / "Mnemonics.antt").read_text()
     return [name for (name,) in lines_of(text, "all_names =", r"    \[\]", r'    is opcode\.(\w+) \(codes "\1"\) ∷')]
+
+
+def numbers():
+    """The number of each opcode by its name."""
+    return {name: number for number, name in enumerate(names())}
 
 
 def forms():
@@ -115,9 +121,12 @@ def strangers():
                 yield f"rows_of_{of} has opcode.{opcode} at 0x{byte:02X}, a name that specs/Mnemonics.antt of x86_opcodes hasn't"
             if form not in ordinal:
                 yield f"rows_of_{of} has form.{form} at 0x{byte:02X}, a form that src/lib.rt of x86_forms hasn't"
-    for group, opcode in group_rows.opcodes():
-        if opcode not in known:
-            yield f"rows_{group} has {opcode}, a name that specs/Mnemonics.antt of x86_opcodes hasn't"
+    for function in (form_rows.PLAIN, form_rows.GROUPS):
+        for form, form_has in form_rows.rows_of(function).items():
+            if form not in {*ordinal, "f"}:
+                yield f"{function} has form.{form}, a form that src/lib.rt of x86_forms hasn't"
+            for opcode in (opcode for row in form_has for opcode in row.opcodes() if opcode not in known):
+                yield f"{function} has {opcode} at form.{form}, a name that specs/Mnemonics.antt of x86_opcodes hasn't"
 
 
 def has_column(columns, column):
@@ -126,12 +135,11 @@ def has_column(columns, column):
 
 def words(map_rows, column):
     """The words of a column by the byte, where the first of several rows counts."""
-    numbers = {name: number for number, name in enumerate(names())}
-    ordinal = ordinals()
+    number_of, ordinal = numbers(), ordinals()
     answer = [0] * 256
     for columns, byte, opcode, form, number in reversed(map_rows):
         if has_column(columns, column):
-            answer[byte] = 256 * numbers[opcode] + 1 + ordinal[form] + number
+            answer[byte] = 256 * number_of[opcode] + 1 + ordinal[form] + number
     return answer
 
 
@@ -247,20 +255,32 @@ def registers_rt():
 def sizes_rt():
     lines = ["//! The sizes as an instruction's text ends with them, by number.", "//!"]
     lines += note("//!", "specs/Lines.antt") + ["use crate::names::{Name, name};", ""]
-    return lines + name_table("SIZES", 4, [" m?" if size == UNDECIDED else f" m{size}" for size in range(65)])
+    return lines + name_table("SIZES", 4, [" m?" if size == form_rows.UNDECIDED else f" m{size}" for size in range(65)])
 
 
 def form_lines_rt():
     lines = ["//! The operand encodings of the forms: a line a form, in the order of the variants of `Form`.", "//!"]
-    lines += note("//!", "specs/Forms.antt") + ["use crate::AfterOpcode::{ByPlan, ByReg, Group};", "use crate::plans::ModrmUse;"]
+    lines += note("//!", "specs/Rows.antt") + ["use crate::AfterOpcode::{ByPlan, ByReg, Group};", "use crate::plans::ModrmUse;"]
     lines += ["use crate::{FormEncoding, RegGroup};", "", "/// The line of each form by the number that words have for it. A form that carries a number has eight."]
-    entries = form_lines.lines(forms())
+    entries = form_lines.lines(dict(forms()))
     return lines + [f"pub(crate) const ENCODINGS: &[FormEncoding; {len(entries)}] = &[", *entries, "];"]
 
 
+def rows_rt(of, function, others, between=()):
+    """A table of the rows of plain forms, or of groups."""
+    lines = [f"//! The rows of {of}: where, the prefixes, and what is there. A name is the number of an opcode, and 0 is none.", "//!"]
+    lines += note("//!", "specs/Rows.antt")
+    return lines + form_rows.table(function, dict(forms()), numbers(), others, between)
+
+
 def group_tables_rt():
-    numbers = {name: number for number, name in enumerate(names())}
-    return group_rows.tables(note("//!", "specs/Rows.antt"), numbers)
+    others = {
+        "crate::by_reg": ["RegLine", "line", "rows_alone"],
+        "x86_operands": ["encoded", "other", "read", "refusal"],
+        "x86_operands::AfterOpcode": ["ByPlan"],
+        "x86_operands::plans": ["ModrmUse"],
+    }
+    return rows_rt("the groups", form_rows.GROUPS, others, form_lines.reg_lines(numbers()))
 
 
 def written():
@@ -272,6 +292,7 @@ def written():
         FORMS / "src" / "ordinals.rt": ordinals_rt(),
         FORMS / "src" / "tables.rt": tables_rt(),
         OPERANDS / "src" / "lines.rt": form_lines_rt(),
+        OPERANDS / "src" / "form_rows.rt": rows_rt("the plain forms", form_rows.PLAIN, {}),
         GROUPS / "src" / "tables.rt": group_tables_rt(),
         TEXT / "src" / "mnemonics.rt": mnemonics_rt(),
         TEXT / "src" / "registers.rt": registers_rt(),

@@ -24,7 +24,7 @@ use Rattle.x86_operands.specs.Forms.{form_record}
 use Rattle.x86_operands.specs.Pieces.{SpellsOperands, SpellsMemory, operand_from}
 use Rattle.x86_operands.specs.Plans.{list_of}
 use Rattle.x86_operands.specs.PlanSteps.{four_of, reading_from}
-use Rattle.x86_operands.specs.Shape.{shape}
+use Rattle.x86_operands.specs.Operands.{shape}
 use Rattle.x86_groups.specs.Rows.{group_rows}
 use Rattle.x86_groups.specs.Groups.{group_plan, group_record, record_of}
 use Rattle.x86_decode.specs.declared.instructions.Instruction.{Instruction}

@@ -23,8 +23,7 @@ use Rattle.x86_operands.specs.PlanSteps.{read_plan, record_step, filled_step, op
 use Rattle.x86_operands.specs.Forms.{form_record}
 use Rattle.x86_operands.specs.Pieces.{SpellsTail, at_modrm, SpellsRow, past_opcode, modrm_width}
 use Rattle.x86_operands.specs.Asks.{modrm_of}
-use Rattle.x86_groups.specs.Choices.{IsFenceWithRm}
-use Rattle.x86_groups.specs.Groups.{group_fault, group_modrm, group_plan, group_record, operandless, bad_operand}
+use Rattle.x86_groups.specs.Groups.{IsFenceWithRm, group_fault, group_modrm, group_plan, group_record, operandless, bad_operand}
 use Rattle.x86_decode.specs.declared.instructions.Instruction.{Instruction}
 use Rattle.x86_decode.specs.Head.{Rows, column_of, escape_bytes, clears, seen_by}
 use Rattle.x86_decode.specs.Instruction.{instruction_of}

@@ -16,13 +16,11 @@ use Rattle.x86_operands.specs.declared.plans.ModrmUse.TheVariants.{Absent, Eithe
 use Rattle.x86_operands.specs.declared.reader.Reading.{Reading}
 use Rattle.x86_forms.specs.Words.{carried}
 use Rattle.x86_operands.specs.Encodings.{allows, has_fields, is_described, plan_of, use_of}
-use Rattle.x86_operands.specs.FormEncodings.{Belongs, Describes, group_form}
+use Rattle.x86_operands.specs.Forms.{Belongs, Describes, group_form, form_record, modrm_use}
 use Rattle.x86_fields.specs.ModRM.{absent_modrm}
-use Rattle.x86_operands.specs.Forms.{form_record, modrm_use}
 use Rattle.x86_operands.specs.PlanSteps.{read_modrm, read_plan, record_step}
-use Rattle.x86_groups.specs.ByReg.{Chooses, reg_plan}
-use Rattle.x86_groups.specs.Groups.{group_record}
-use Rattle.x86_groups.proofs.RegLemmas.{reg_record, reg_chosen, reg_group}
+use Rattle.x86_groups.specs.Groups.{Chooses, reg_plan, group_record}
+use Rattle.x86_groups.proofs.LineLemmas.{reg_record, reg_chosen, reg_group}
 use Rattle.x86_decode.specs.Walk.{row_step, plan_at}
 
 -- what follows a ModRM byte that was read

@@ -9,8 +9,7 @@ use Rattle.x86_fields.specs.declared.raw.Raw.{Raw}
 use Rattle.x86_fields.specs.Run.{reading_of}
 use Rattle.x86_fields.specs.Linear.{raw_form}
 use Rattle.x86_forms.specs.Words.{rows_of, packed}
-use Rattle.x86_operands.specs.Shape.{shape}
-use Rattle.x86_operands.specs.Linear.{operand_form}
+use Rattle.x86_operands.specs.Operands.{shape, operand_form}
 use Rattle.x86_operands.specs.Plans.{RowRecord}
 use Rattle.x86_decode.specs.declared.instructions.Instruction.{Instruction}
 use Rattle.x86_decode.specs.Head.{Rows, escape_bytes, clears, column_of, seen_by}
@@ -22,8 +21,7 @@ use Rattle.x86_decode.specs.Grammar.{IsSentence, IsAnswer}
 use Rattle.x86_decode.specs.Answer.{answer_of, count_of}
 use Rattle.x86_operands.specs.declared.reader.Reading.{Reading}
 use Rattle.x86_operands.specs.Asks.{modrm_of}
-use Rattle.x86_operands.specs.Pieces.{SpellsRow}
-use Rattle.x86_operands.specs.Ties.{names_modrm, encodings_of, HasShapeAt}
+use Rattle.x86_operands.specs.Pieces.{SpellsRow, names_modrm, encodings_of, HasShapeAt}
 use Rattle.x86_decode.proofs.ByteLemmas.{Bytes, bytes_of, bytes_after, bytes_before, memory_fits}
 use Rattle.x86_operands.proofs.TieLemmas.{spelled_tied}
 use Rattle.x86_decode.proofs.TieLemmas.{tied_operands, is_shape}

@@ -3,8 +3,8 @@ use Rattle.std.proofs.Common.{◌≡◌, ℕ, ◌<◌, ◌∙◌, refl}
 use Rattle.std.proofs.lemmas.Bool.{lt-ltb}
 use Rattle.x86_fields.specs.declared.raw.Raw.{Raw}
 use Rattle.x86_operands.specs.declared.reader.Reading.{Reading}
-use Rattle.x86_operands.specs.Shape.{shape}
-use Rattle.x86_operands.specs.Ties.{slot_read, operand_read, AreTied, HasShapeAt}
+use Rattle.x86_operands.specs.Operands.{shape}
+use Rattle.x86_operands.specs.Pieces.{slot_read, operand_read, AreTied, HasShapeAt}
 use Rattle.x86_decode.specs.declared.instructions.Instruction.{Instruction}
 use Rattle.x86_decode.specs.Instruction.{instruction_of, slot_at, operand_at}
 use Rattle.x86_decode.specs.Ties.{HasTiedOperands}

@@ -10,7 +10,7 @@ use Rattle.x86_operands.specs.Asks.{modrm_of}
 use Rattle.x86_decode.specs.Head.{Rows, seen_by}
 use Rattle.x86_groups.specs.Groups.{record_of}
 use Rattle.x86_decode.specs.Grammar.{Whole}
-pub use Rattle.x86_operands.specs.Ties.{is_modrm_encoding, names_modrm}
+pub use Rattle.x86_operands.specs.Pieces.{is_modrm_encoding, names_modrm}
 
 module _ (rows : Rows) (strict : Bool) (s : List ℕ) (reading : Reading) (w : Whole rows strict s reading) where
   -- the plan that the record of the encoding's row has at its ModRM

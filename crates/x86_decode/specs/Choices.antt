@@ -3,7 +3,7 @@ use Rattle.std.specs.Prelude.{◌≡◌, ℕ, ◌≤◌, true, Some, List, [], �
 use Rattle.x86_fields.specs.Run.{reading_of}
 use Rattle.x86_forms.specs.declared.Map.{Map}
 use Rattle.x86_forms.specs.declared.TableRow.{TableRow}
-use Rattle.x86_groups.specs.Choices.{IsFenceWithRm}
+use Rattle.x86_groups.specs.Groups.{IsFenceWithRm}
 use Rattle.x86_decode.specs.Head.{Rows, is_run, column_of, escape_bytes, is_opcode, seen_by}
 
 module _ (rows : Rows) where

@@ -2,7 +2,7 @@
 use Rattle.std.specs.Prelude.{◌≡◌, ℕ, ◌<◌, ◌≤◌, true}
 use Rattle.x86_decode.specs.declared.instructions.Instruction.{Instruction}
 use Rattle.x86_decode.specs.Instruction.{operand_count, slot_at, operand_at}
-pub use Rattle.x86_operands.specs.Ties.{is_decoded, suits}
+pub use Rattle.x86_operands.specs.Pieces.{is_decoded, suits}
 
 -- At most four operands, each of them decoded and suited to its slot.
 pub record HasTiedOperands (i : Instruction) : Type 0 where

@@ -5,7 +5,7 @@ ghost use Rattle.std.specs.Ordering.{on};
 ghost use Rattle.x86_decode.specs.contracts.instructions.ShownPartialEq.TheImpl.Laws as shown_eq;
 ghost use Rattle.x86_decode.specs.contracts.instructions.ShownEq.TheImpl.Laws as shown_equivalence;
 ghost use Rattle.x86_arch.specs.AddressDiff.{from_const};
-ghost use Rattle.x86_operands.specs.Visitor.{visit_of};
+ghost use Rattle.x86_operands.specs.Operands.{visit_of};
 ghost use Rattle.x86_decode.specs.Instruction.{opcode, operand_count, length_of, invalid_instruction, slot_at, operand_at, operands_of, shown_of, segment_override_for_op, unless_ds, mem_size_of, xacquire, xrelease, exchanges_memory, is_release_slot, is_rm_slot};
 
 use x86_arch::{AddressDiff, LengthedInstruction};

@@ -1,18 +1,18 @@
 -- The default and the strict choice differ on fences whose rm isn't 0, and on nothing else.
-use Rattle.std.proofs.Common.{◌≡◌, ℕ, zero, suc, ◌==◌, ◌⊎◌, inl, inr, Bool, true, false, not, ◌||◌, [], ◌∷◌, refl, sym, ap, ◌∙◌, arith, true≢false}
+use Rattle.std.proofs.Common.{◌≡◌, ℕ, zero, suc, ◌==◌, ◌⊎◌, inl, inr, Bool, true, false, not, ◌&&◌, ◌||◌, [], ◌∷◌, refl, sym, ap, ◌∙◌, arith, true≢false}
 use Rattle.std.specs.List.{list_all}
 use Rattle.std.proofs.lemmas.Bool.{cases_Bool, ne_eqb}
-use Rattle.x86_groups.specs.Vocabulary.{Prefixes, TableRow, Form, ModrmUse, BadOperand, AtModRM, reg_field, rm_field, Rm, Refuses, GroupRow}
+use Rattle.x86_groups.specs.Vocabulary.{Prefixes, TableRow, Form, ModrmUse, BadOperand, AtModRM, reg_field, rm_field, Rm, Refuses, FormRow}
 use Rattle.x86_forms.specs.Groups.{is_group}
 use Rattle.x86_forms.specs.declared.Form.TheVariants as form
 use Rattle.x86_opcodes.specs.Names.{LFENCE, MFENCE, SFENCE}
 use Rattle.x86_operands.specs.Asks.{ask_of, plan_ask, used_modrm}
-use Rattle.x86_groups.specs.declared.rows.Rm.TheVariants as rms
-use Rattle.x86_groups.specs.Columns.{choose, is_there, name_at, plan_of_row}
-use Rattle.x86_groups.specs.Choices.{NamesFence, lfence, mfence, sfence, IsFenceWithRm}
-use Rattle.x86_groups.specs.Groups.{group_modrm, group_plan, group_record, operandless, bad_operand, record_of}
+use Rattle.x86_operands.specs.declared.rows.Rm.TheVariants as rms
+use Rattle.x86_operands.specs.declared.letters.Letters.TheVariants as letters
+use Rattle.x86_operands.specs.Columns.{choose, is_named, is_placed, is_prefixed, is_reg, is_rm, is_there, name_at, plan_of_row}
+use Rattle.x86_groups.specs.Groups.{NamesFence, lfence, mfence, sfence, IsFenceWithRm, group_modrm, group_plan, group_record, operandless, bad_operand, record_of}
 use Rattle.x86_groups.specs.Rows.{group_rows}
-use Rattle.x86_groups.proofs.RowLemmas.{chosen_alike}
+use Rattle.x86_operands.proofs.ContentLemmas.{chosen_alike}
 
 -- ---- the rows of 0F AE
 
@@ -27,13 +27,20 @@ fence_named m (suc (suc (suc (suc (suc (suc zero)))))) e h = (MFENCE, mfence e)
 fence_named m (suc (suc (suc (suc (suc (suc (suc zero))))))) e h = (SFENCE, sfence e)
 fence_named m _ e h = absurd (true≢false (sym h))
 
-module _ (p : Prefixes) (m : ℕ) where
+module _ (own : TableRow) (p : Prefixes) (m : ℕ) where
   -- a row that is there under both choices or under neither
-  abbrev same_row : GroupRow → Bool
-  same_row row = not (by_choice row.at.rm) || ((rm_field m == 0) || not (is_there row false p m))
+  abbrev same_row : FormRow → Bool
+  same_row row = not (by_choice row.at.rm) || ((rm_field m == 0) || not (is_there row own false p m))
 
-  row_same : (row : GroupRow) → same_row row ≡ true → is_there row true p m ≡ is_there row false p m
-  row_same row h = grind arith
+  by_zero : (a b z rest : Bool) → (z || not (a && (b && rest))) ≡ true → (a && (b && (z && rest))) ≡ (a && (b && rest))
+  by_zero a b z rest h = grind arith
+
+  rm_same : (r : Rm) (a b rest : Bool) → (not (by_choice r) || ((rm_field m == 0) || not (a && (b && (is_rm r false m && rest))))) ≡ true → (a && (b && (is_rm r true m && rest))) ≡ (a && (b && (is_rm r false m && rest)))
+  rm_same rms.ZeroIfStrict a b rest h = by_zero a b (rm_field m == 0) rest h
+  rm_same r a b rest h = refl
+
+  row_same : (row : FormRow) → same_row row ≡ true → is_there row own true p m ≡ is_there row own false p m
+  row_same row h = rm_same row.at.rm (is_placed row.at.place m) (is_reg row.at.reg m) (is_prefixed row.when own p && is_named row.content m) h
 
   fence_of : list_all same_row (group_rows form.ModRM_0x0fae) ≡ false → IsFenceWithRm form.ModRM_0x0fae p m
   unfolding group_rows
@@ -41,31 +48,31 @@ module _ (p : Prefixes) (m : ℕ) where
       let names = fence_named m (reg_field m) refl (grind arith) in
       record { opcode = names.0; group = refl; no_f2 = grind arith; no_f3 = grind arith; no_66 = grind arith; register = grind arith; named = names.1; other_rm = grind arith }
 
-same_or_fence : (f : Form) (p : Prefixes) (m : ℕ) → (choose (group_rows f) true p m ≡ choose (group_rows f) false p m) ⊎ IsFenceWithRm f p m
+same_or_fence : (f : Form) (own : TableRow) (p : Prefixes) (m : ℕ) → (choose (group_rows f) own true p m ≡ choose (group_rows f) own false p m) ⊎ IsFenceWithRm f p m
 unfolding group_rows
-same_or_fence form.ModRM_0x0fae p m = elim (cases_Bool (list_all (same_row p m) (group_rows form.ModRM_0x0fae))) [
-  | inl e ↦ inl (chosen_alike (same_row p m) true false p p m m (row_same p m) (group_rows form.ModRM_0x0fae) e)
-  | inr e ↦ inr (fence_of p m e)
+same_or_fence form.ModRM_0x0fae own p m = elim (cases_Bool (list_all (same_row own p m) (group_rows form.ModRM_0x0fae))) [
+  | inl e ↦ inl (chosen_alike (same_row own p m) own true false p p m m (row_same own p m) (group_rows form.ModRM_0x0fae) e)
+  | inr e ↦ inr (fence_of own p m e)
 ]
-same_or_fence f p m = inl refl
+same_or_fence f own p m = inl refl
 
 -- ---- plans
 
 pub same_elsewhere : (row : TableRow) (p : Prefixes) (m : ℕ) → (group_plan row p m true ≡ group_plan row p m false) ⊎ IsFenceWithRm row.form p m
 unfolding group_plan
-same_elsewhere row p m = elim (same_or_fence row.form p m) [
-  | inl e ↦ inl (ap (λ content. plan_of_row content row.opcode p m) e)
+same_elsewhere row p m = elim (same_or_fence row.form row p m) [
+  | inl e ↦ inl (ap (λ content. plan_of_row content row p m) e)
   | inr h ↦ inr h
 ]
 
 module _ (row : TableRow) (p : Prefixes) (m : ℕ) (h : IsFenceWithRm row.form p m) where
-  by_default : (o : ℕ) → NamesFence m o → plan_of_row (choose (group_rows form.ModRM_0x0fae) false p m) row.opcode p m ≡ operandless o
+  by_default : (o : ℕ) → NamesFence m o → plan_of_row (choose (group_rows form.ModRM_0x0fae) row false p m) row p m ≡ operandless o
   unfolding group_rows
   by_default o (lfence e) = rw (h.no_f2, h.no_f3, h.no_66, h.register, e) (rw (h.register, e) refl)
   by_default o (mfence e) = rw (h.no_f2, h.no_f3, h.no_66, h.register, e) (rw (h.register, e) refl)
   by_default o (sfence e) = rw (h.no_f2, h.no_f3, h.no_66, h.register, e) (rw (h.register, e) refl)
 
-  strictly : (o : ℕ) → NamesFence m o → choose (group_rows form.ModRM_0x0fae) true p m ≡ Refuses BadOperand AtModRM
+  strictly : (o : ℕ) → NamesFence m o → choose (group_rows form.ModRM_0x0fae) row true p m ≡ Refuses letters.Zero BadOperand AtModRM
   unfolding group_rows
   strictly o (lfence e) = rw (h.no_f2, h.no_f3, h.no_66, h.register, ne_eqb (rm_field m) 0 h.other_rm, e) refl
   strictly o (mfence e) = rw (h.no_f2, h.no_f3, h.no_66, h.register, ne_eqb (rm_field m) 0 h.other_rm, e) refl
@@ -73,11 +80,11 @@ module _ (row : TableRow) (p : Prefixes) (m : ℕ) (h : IsFenceWithRm row.form p
 
   pub fence_by_default : group_plan row p m false ≡ operandless h.opcode
   unfolding group_plan
-  fence_by_default = ap (λ f. plan_of_row (choose (group_rows f) false p m) row.opcode p m) h.group ∙ by_default h.opcode h.named
+  fence_by_default = ap (λ f. plan_of_row (choose (group_rows f) row false p m) row p m) h.group ∙ by_default h.opcode h.named
 
   pub fence_strictly : group_plan row p m true ≡ bad_operand
   unfolding group_plan
-  fence_strictly = ap (λ f. plan_of_row (choose (group_rows f) true p m) row.opcode p m) h.group ∙ ap (λ content. plan_of_row content row.opcode p m) (strictly h.opcode h.named)
+  fence_strictly = ap (λ f. plan_of_row (choose (group_rows f) row true p m) row p m) h.group ∙ ap (λ content. plan_of_row content row p m) (strictly h.opcode h.named)
 
 -- what a group has is the same under both choices
 pub same_ask : (usage : ModrmUse) (at : ℕ) (row : TableRow) (strict : Bool) (p : Prefixes) (m : ℕ) → plan_ask usage at (group_plan row p m strict) ≡ plan_ask usage at (group_plan row p m false)

@@ -1,5 +1,5 @@
 -- What holds of the records of all groups.
-use Rattle.std.proofs.Common.{◌≡◌, ◌≢◌, ◌≤◌, inl, inr, Err, ℕ, nat_le, Bool, true, false, not, ◌&&◌, ◌||◌, Some, refl, sym, subst, ap, ◌∙◌, true≢false, arith}
+use Rattle.std.proofs.Common.{◌≡◌, ◌≢◌, ◌≤◌, inl, inr, Err, ℕ, ◌==◌, Bool, true, false, not, ◌||◌, Some, refl, sym, subst, ap, ◌∙◌, true≢false, arith}
 use Rattle.x86_arch.specs.Reader.{State}
 use Rattle.x86_fields.specs.declared.errors.DecodeError.TheVariants.{IncompleteDecoder}
 use Rattle.x86_groups.specs.Vocabulary.{Prefixes, Form, TableRow, EitherForm, Incomplete, Plan, Moment, AfterAddress, reg_field}
@@ -8,22 +8,47 @@ use Rattle.x86_forms.specs.declared.Form.TheVariants as form
 use Rattle.x86_forms.specs.Groups.{is_group}
 use Rattle.x86_forms.specs.Words.{IsForm}
 use Rattle.x86_operands.specs.Forms.{modrm_use}
+use Rattle.x86_operands.specs.Rows.{form_rows}
 use Rattle.x86_operands.specs.Asks.{immediates_width}
 use Rattle.x86_operands.specs.PlanSteps.{record_step}
+use Rattle.x86_operands.proofs.ContentLemmas.{passes, without_gap, at_most_64, at_most_8, keeps_reg, row_fits, rows_pass}
 use Rattle.x86_operands.proofs.RowLemmas.{HasGap, row_left_out}
-use Rattle.x86_operands.proofs.PlanTests.{passes, without_gap, at_most_64, at_most_8}
-use Rattle.x86_groups.specs.Columns.{choose, plan_of_row}
+use Rattle.x86_operands.specs.Columns.{choose, plan_of_row}
 use Rattle.x86_groups.specs.Groups.{group_fault, group_plan, group_record}
 use Rattle.x86_groups.specs.Rows.{group_rows}
-use Rattle.x86_groups.proofs.FactLemmas.{is_8f, may_have_gap}
-use Rattle.x86_groups.proofs.PlanLemmas.{group_passes}
+use Rattle.std.specs.List.{list_all}
+
+-- ---- all rows of all groups
+
+abbrev pub is_8f : Form → Bool
+is_8f form.ModRM_0x8f = true
+is_8f f = false
+
+-- 8F, and the forms that are no groups, may be left out
+abbrev pub may_have_gap : Form → Bool
+may_have_gap f = not (is_group f) || is_8f f
+
+pub rows_fit : (f : Form) → list_all (row_fits (may_have_gap f)) (group_rows f) ≡ true
+unfolding group_rows
+rows_fit (form.Zv_R n) = refl
+rows_fit f = refl
+
+pub rows_keep_reg : (f : Form) → list_all keeps_reg (group_rows f) ≡ true
+unfolding group_rows
+rows_keep_reg (form.Zv_R n) = refl
+rows_keep_reg f = refl
 
 -- the form of a group carries no number, and has a ModRM byte
 pub group_form : (f : Form) → is_group f ≡ true → IsForm f
 group_form f h = grind arith
 
 pub group_either : (f : Form) → is_group f ≡ true → modrm_use f ≡ EitherForm
+unfolding modrm_use form_rows
 group_either f h = grind arith
+
+group_passes : (row : TableRow) (strict : Bool) (p : Prefixes) (m : ℕ) → passes (may_have_gap row.form) (group_plan row p m strict) ≡ true
+unfolding group_plan
+group_passes row strict p m = rows_pass (may_have_gap row.form) (group_rows row.form) row strict p m (rows_fit row.form)
 
 pub group_small : (strict : Bool) (row : TableRow) (p : Prefixes) (m : ℕ) → ((group_record strict row p).plan m).size ≤ 64
 unfolding group_record
@@ -57,16 +82,16 @@ gap_form strict row p m w group e =
     eight_f row.form (rw group at h)
 
 abbrev is_reg_0 : ℕ → Bool
-is_reg_0 reg = nat_le 0 reg && (nat_le reg 0 && true)
+is_reg_0 reg = reg == 0
 
-gap_8f : (o : ℕ) (strict : Bool) (p : Prefixes) (m : ℕ) (w : Moment) → (plan_of_row (choose (group_rows form.ModRM_0x8f) strict p m) o p m).verdict ≡ Refuses Incomplete w → (is_reg_0 (reg_field m) ≡ false) × (w ≡ AfterAddress)
+gap_8f : (o : TableRow) (strict : Bool) (p : Prefixes) (m : ℕ) (w : Moment) → (plan_of_row (choose (group_rows form.ModRM_0x8f) o strict p m) o p m).verdict ≡ Refuses Incomplete w → (is_reg_0 (reg_field m) ≡ false) × (w ≡ AfterAddress)
 unfolding group_rows
 gap_8f o strict p m w e = (grind arith, grind arith)
 
 gap_in_8f : (strict : Bool) (row : TableRow) (p : Prefixes) (m : ℕ) (w : Moment) → is_group row.form ≡ true → ((group_record strict row p).plan m).verdict ≡ Refuses Incomplete w → (is_reg_0 (reg_field m) ≡ false) × (w ≡ AfterAddress)
 unfolding group_record group_plan
 gap_in_8f strict row p m w group e =
-    gap_8f row.opcode strict p m w (subst (λ f. (plan_of_row (choose (group_rows f) strict p m) row.opcode p m).verdict ≡ Refuses Incomplete w) (gap_form strict row p m w group e) e)
+    gap_8f row strict p m w (subst (λ f. (plan_of_row (choose (group_rows f) row strict p m) row p m).verdict ≡ Refuses Incomplete w) (gap_form strict row p m w group e) e)
 
 pub gap_reg : (strict : Bool) (row : TableRow) (p : Prefixes) (m : ℕ) (w : Moment) → is_group row.form ≡ true → ((group_record strict row p).plan m).verdict ≡ Refuses Incomplete w → reg_field m ≢ 0
 gap_reg strict row p m w group e z = absurd (true≢false (sym (ap is_reg_0 z) ∙ (gap_in_8f strict row p m w group e).0))

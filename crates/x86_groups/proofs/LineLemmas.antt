@@ -1,20 +1,26 @@
 -- The line of each reg has the plan of its rows.
-use Rattle.std.proofs.Common.{◌≡◌, IsTrue, ℕ, zero, suc, ◌<◌, Bool, true, false, ◌&&◌, if◌then◌else◌, [], slice_index_or, refl, sym, ap, ◌∙◌, arith, true≢false}
+use Rattle.std.proofs.Common.{◌≡◌, IsTrue, ℕ, zero, suc, ◌<◌, Bool, true, false, ◌&&◌, if◌then◌else◌, [], slice_index_or, refl, sym, ap, ◌∙◌, arith, true≢false, None, Result, Ok, Err}
 use Rattle.std.specs.List.{list_all}
-use denote.Enum.Declared.{tag_of}
 use Rattle.x86_operands.specs.contracts.encodings.RegGroup.{the_type}
 use Rattle.std.proofs.lemmas.Bool.{and_parts}
-use Rattle.x86_groups.specs.Vocabulary.{Prefixes, RegGroup, Size, reg_field, is_memory, Names, Own, Content, Reads, Refuses}
+use Rattle.x86_groups.specs.Vocabulary.{Prefixes, TableRow, RegGroup, Size, reg_field, is_memory, Letter, Letters, RowSize, Named, Names, Own, Content, Reads, Refuses, DecodeError, Form, EitherForm, Plan}
 use Rattle.x86_opcodes.specs.Names.{Invalid}
 use Rattle.x86_operands.specs.declared.encodings.RegGroup.TheVariants as group
-use Rattle.x86_operands.specs.FormEncodings.{group_form}
+use Rattle.x86_operands.specs.Forms.{group_form, row_with}
 use Rattle.x86_operands.specs.Encodings.{is_sound, size_bytes, is_described, plan_of}
 use Rattle.x86_groups.specs.declared.by_reg.RegLine.{RegLine}
 use Rattle.x86_groups.specs.declared.tables.TheConstants.{REG_LINES}
-use Rattle.x86_groups.specs.Columns.{choose, named, opcode_of, plan_of_row}
+use Rattle.x86_operands.specs.declared.letters.Letter.TheVariants as letter
+use Rattle.x86_operands.specs.Columns.{choose, named, letter_encoding, opcode_of, operand_encodings, plan_of_row, row_bytes}
 use Rattle.x86_groups.specs.Rows.{group_rows}
-use Rattle.x86_groups.specs.ByReg.{Chooses, has_either_form, reg_plan}
-use Rattle.x86_groups.proofs.RowLemmas.{chosen_has}
+use Rattle.x86_groups.specs.Groups.{Chooses, has_either_form, reg_plan, group_fault, group_modrm, group_plan, group_record}
+use Rattle.x86_operands.proofs.ContentLemmas.{chosen_has, letters_list, operands_same}
+use Rattle.x86_arch.specs.Reader.{State}
+use Rattle.x86_fields.specs.Steps.{then_from, ◌>>=◌}
+use Rattle.x86_forms.specs.Groups.{is_group}
+use Rattle.x86_operands.specs.PlanSteps.{read_modrm, read_plan, record_step}
+use Rattle.x86_forms.specs.Words.{carried}
+use denote.Enum.Declared.{tag_of}
 
 -- ---- the lines
 
@@ -82,36 +88,35 @@ line_sound g k d low = (and_parts (is_sound (line_at (place_of g) k d).encoding)
 pub line_fields : (g : RegGroup) (k : ℕ) (d : RegLine) → k < 8 → IsTrue (is_described (line_at (place_of g) k d).encoding.after_opcode) → has_either_form (line_at (place_of g) k d).encoding.after_opcode ≡ true
 line_fields g k d low e = rw e at (and_parts (is_sound (line_at (place_of g) k d).encoding) _ (good_cells g d k low)).1
 
--- ---- the plan of a group goes neither by the opcode of the row in the opcode map nor by the choice
+-- ---- the plan of a group goes neither by the row in the opcode map nor by the choice
 
-abbrev no_own : Names → Bool
-no_own Own = false
-no_own names = true
-
-abbrev no_own_content : Content → Bool
-no_own_content (Reads names operands memory register change) = no_own names
-no_own_content (Refuses fault moment) = true
-
-own_names : (names : Names) (a b m : ℕ) → no_own names ≡ true → opcode_of names a m ≡ opcode_of names b m
-own_names names a b m h = grind arith
-
-own_free : (content : Content) (a b : ℕ) (p : Prefixes) (m : ℕ) → no_own_content content ≡ true → plan_of_row content a p m ≡ plan_of_row content b p m
-own_free (Reads names operands memory register change) a b p m h = rw (own_names names a b m h) refl
-own_free (Refuses fault moment) a b p m h = refl
-
-rows_no_own : (g : RegGroup) → list_all (λ row. no_own_content row.content) (group_rows (group_form g)) ≡ true
+pub plan_is : (g : RegGroup) (own : TableRow) (strict : Bool) (p : Prefixes) (m : ℕ) → plan_of_row (choose (group_rows (group_form g)) own strict p m) own p m ≡ reg_plan g p m
 unfolding group_rows
-rows_no_own group.G80 = refl
-rows_no_own g = refl
+plan_is group.G80 own strict p m = first_of (cc, grind arith)
+plan_is g own strict p m = first_of (cc, grind arith)
 
-rows_choice : (g : RegGroup) (strict : Bool) (p : Prefixes) (m : ℕ) → choose (group_rows (group_form g)) strict p m ≡ choose (group_rows (group_form g)) false p m
-unfolding group_rows
-rows_choice group.G80 strict p m = refl
-rows_choice g strict p m = refl
+-- ---- the records of groups whose lines reg alone chooses
 
-pub plan_is : (g : RegGroup) (o : ℕ) (strict : Bool) (p : Prefixes) (m : ℕ) → plan_of_row (choose (group_rows (group_form g)) strict p m) o p m ≡ reg_plan g p m
-plan_is g o strict p m =
-    let rows = group_rows (group_form g) in
-    ap (λ content. plan_of_row content o p m) (rows_choice g strict p m)
-    ∙ own_free (choose rows false p m) o Invalid p m
-    (chosen_has (λ content. no_own_content content ≡ true) (λ row. no_own_content row.content) false p m refl (λ row e h. e) rows (rows_no_own g))
+pub reg_chosen : (g : RegGroup) (strict : Bool) (row : TableRow) (p : Prefixes) (m : ℕ) → row.form ≡ group_form g → group_plan row p m strict ≡ reg_plan g p m
+unfolding group_plan
+reg_chosen g strict row p m e = ap (λ f. plan_of_row (choose (group_rows f) row strict p m) row p m) e ∙ plan_is g row strict p m
+
+pub reg_form : (g : RegGroup) (f : Form) → f ≡ group_form g → (is_group f ≡ true) × (carried f ≡ 0) × (group_modrm f ≡ EitherForm)
+reg_form group.G80 f e = rw e (refl, refl, refl)
+reg_form g f e = rw e (refl, refl, refl)
+
+fault_of_form : (g : RegGroup) (f : Form) (p : Prefixes) → f ≡ group_form g → group_fault f p ≡ None
+fault_of_form g f p e = grind arith
+
+same_following : (r : Result ℕ DecodeError) (s : State ℕ) (p : Prefixes) (a b : ℕ → Plan) → ((m : ℕ) → a m ≡ b m) → then_from r s (λ m. read_plan (a m) p m) ≡ then_from r s (λ m. read_plan (b m) p m)
+same_following (Ok m) s p a b same = ap (λ plan. read_plan plan p m s) (same m)
+same_following (Err x) s p a b same = refl
+
+pub reg_record : (g : RegGroup) (strict : Bool) (row : TableRow) (p : Prefixes) (s : State ℕ) → row.form ≡ group_form g → record_step (group_record strict row p) p s ≡ (read_modrm EitherForm >>= λ m. read_plan (reg_plan g p m) p m) s
+unfolding record_step group_record
+reg_record g strict row p s e =
+    rw (fault_of_form g row.form p e, (reg_form g row.form e).2)
+    (same_following (read_modrm EitherForm s).answer (read_modrm EitherForm s).after p (λ m. group_plan row p m strict) (λ m. reg_plan g p m) (λ m. reg_chosen g strict row p m e))
+
+pub reg_group : (g : RegGroup) (f : Form) → f ≡ group_form g → is_group f ≡ true
+reg_group g f e = (reg_form g f e).0

@@ -1,15 +1,19 @@
 -- The records of the groups: forms of which ModRM or a suffix chooses the operation. With them every row of the opcode
 -- maps has its record. Source: Intel SDM volume 2, appendix A.4.
-use Rattle.std.specs.Prelude.{ℕ, Bool, true, false, not, ◌&&◌, if◌then◌else◌, Option, Some, None, is_some}
+use Rattle.std.specs.Prelude.{ℕ, Bool, true, false, not, ◌&&◌, if◌then◌else◌, Option, Some, None, is_some, ◌≡◌, ◌≢◌, IsTrue}
 use Rattle.x86_regs.specs.declared.Segment.{Segment}
-use Rattle.x86_groups.specs.Vocabulary.{Prefixes, Fault, BadOpcode, BadOperand, AtModRM, ModrmUse, EitherForm, Registers, Zero, Plan, Form, TableRow, rep}
+use Rattle.x86_groups.specs.Vocabulary.{Prefixes, Fault, BadOpcode, AtModRM, ModrmUse, EitherForm, Registers, Zero, Plan, Form, TableRow, rep, repnz, reg_field, rm_field, is_memory, operand_size, Reading, RegGroup, FormEncoding, AfterOpcode}
 use Rattle.x86_fields.specs.Prefixes.{operand_size, address_size, lock, segment, rex}
 use Rattle.x86_forms.specs.Groups.{is_group}
-use Rattle.x86_operands.specs.Plans.{RowRecord, reads, refuses}
-use Rattle.x86_operands.specs.Forms.{form_record}
+use Rattle.x86_operands.specs.Plans.{RowRecord, reads, refused}
+use Rattle.x86_operands.specs.Forms.{form_record, group_form, row_with}
 use Rattle.x86_forms.specs.declared.Form.TheVariants as form
-use Rattle.x86_groups.specs.Columns.{choose, plan_of_row}
+use Rattle.x86_operands.specs.Columns.{choose, plan_of_row}
 use Rattle.x86_groups.specs.Rows.{group_rows}
+use Rattle.x86_opcodes.specs.Names.{Invalid, LFENCE, MFENCE, SFENCE}
+use Rattle.x86_fields.specs.Steps.{Step, ◌>>=◌}
+use Rattle.x86_operands.specs.PlanSteps.{read_modrm, read_plan}
+use Rattle.x86_operands.specs.Encodings.{plan_of, is_described}
 
 -- ---- at the opcode, and ModRM
 
@@ -40,7 +44,7 @@ group_modrm f = EitherForm
 
 -- under the prefixes, at a ModRM byte and under the choice
 unfoldable pub group_plan : TableRow → Prefixes → ℕ → Bool → Plan
-group_plan row p m strict = plan_of_row (choose (group_rows row.form) strict p m) row.opcode p m
+group_plan row p m strict = plan_of_row (choose (group_rows row.form) row strict p m) row p m
 
 unfoldable pub group_record : Bool → TableRow → Prefixes → RowRecord
 group_record strict row p = record { at_opcode = group_fault row.form p; modrm = group_modrm row.form; plan = λ m. group_plan row p m strict }
@@ -50,12 +54,49 @@ group_record strict row p = record { at_opcode = group_fault row.form p; modrm =
 abbrev pub record_of : Bool → TableRow → Prefixes → RowRecord
 record_of strict row p = if is_group row.form then group_record strict row p else form_record row p
 
--- ---- two plans that laws name
-
--- no operand, and no memory
+-- no operand and no memory, and a refusal of the operand after ModRM
 abbrev pub operandless : ℕ → Plan
 operandless opcode = reads opcode Zero 0
 
--- a refusal of the operand after ModRM
 abbrev pub bad_operand : Plan
-bad_operand = refuses BadOperand AtModRM
+bad_operand = refused true AtModRM (operandless Invalid)
+
+-- ---- where the choices differ. Source: Intel SDM volume 2, appendix A.4, group 15
+
+-- The fence that reg names.
+pub data NamesFence (m : ℕ) : ℕ → Type 0 where
+  lfence : reg_field m ≡ 5 → NamesFence m LFENCE
+  mfence : reg_field m ≡ 6 → NamesFence m MFENCE
+  sfence : reg_field m ≡ 7 → NamesFence m SFENCE
+
+-- LFENCE, MFENCE or SFENCE, with an rm other than 0: 0F AE without F2, F3 and 66, in the register form.
+pub record IsFenceWithRm (f : Form) (p : Prefixes) (m : ℕ) : Type 0 where
+  pub opcode : ℕ
+  pub group : f ≡ form.ModRM_0x0fae
+  pub no_f2 : repnz p ≡ false
+  pub no_f3 : rep p ≡ false
+  pub no_66 : operand_size p ≡ false
+  pub register : is_memory m ≡ false
+  pub named : NamesFence m opcode
+  pub other_rm : rm_field m ≢ 0
+
+-- ---- groups of which reg alone chooses rows
+
+-- the plan of a group, which goes neither by the opcode of the row in the opcode map nor by the choice
+abbrev pub reg_plan : RegGroup → Prefixes → ℕ → Plan
+reg_plan g p m =
+    let own = row_with Invalid (group_form g) in
+    plan_of_row (choose (group_rows (group_form g)) own false p m) own p m
+
+-- a line of the table is the plan of the group, unless it leaves it to the rows
+abbrev pub Chooses : RegGroup → ℕ → ℕ → FormEncoding → Type 0
+Chooses g m o e = IsTrue (is_described e.after_opcode) → (n : ℕ) (p : Prefixes) → plan_of e n o p m ≡ reg_plan g p m
+
+-- a line of a group has a ModRM byte of either form
+abbrev pub has_either_form : AfterOpcode → Bool
+has_either_form AfterOpcode.EitherForm = true
+has_either_form b = false
+
+-- what a group reads after its opcode byte: ModRM, and what its line has there
+abbrev pub reg_step : RegGroup → Prefixes → Step Reading
+reg_step g p = read_modrm EitherForm >>= λ m. read_plan (reg_plan g p m) p m

@@ -2,21 +2,21 @@
 -- that is there counts. The columns: where (mem the memory forms of ModRM, reg the register forms, both; at a reg, or at
 -- a reg and an rm), the prefixes, the name or the names of eight regs or rms (`none` where the row isn't), the operands,
 -- and the memory size (of the memory form, and of the register form). A row that is refused has the error and the moment
--- after which it comes. specs/Words.antt has the words, and specs/Columns.antt what they mean.
+-- after which it comes. Of x86_operands, specs/Words.antt has the words, and specs/Columns.antt what they mean.
 use Rattle.std.specs.Prelude.{List, [], ◌∷◌}
 use Rattle.x86_opcodes.specs.Names.{ADC, ADD, AESDEC128KL, AESDEC256KL, AESDECWIDE128KL, AESDECWIDE256KL, AESENC128KL, AESENC256KL, AESENCWIDE128KL, AESENCWIDE256KL, AND, BT, BTC, BTR, BTS, CALL, CALLF, CLAC, CLFLUSH, CLFLUSHOPT, CLGI, CLRSSBSY, CLUI, CLWB, CLZERO, CMP, CMPXCHG16B, CMPXCHG8B, DEC, DIV, ENCLS, ENCLU, ENCLV, ENCODEKEY128, ENCODEKEY256, ENDBR32, ENDBR64, EXTRQ, F2XM1, FABS, FADD, FADDP, FBLD, FBSTP, FCHS, FCMOVB, FCMOVBE, FCMOVE, FCMOVNB, FCMOVNBE, FCMOVNE, FCMOVNU, FCMOVU, FCOM, FCOMI, FCOMIP, FCOMP, FCOMPP, FCOS, FDECSTP, FDISI8087_NOP, FDIV, FDIVP, FDIVR, FDIVRP, FENI8087_NOP, FFREE, FFREEP, FIADD, FICOM, FICOMP, FIDIV, FIDIVR, FILD, FIMUL, FINCSTP, FIST, FISTP, FISTTP, FISUB, FISUBR, FLD, FLD1, FLDCW, FLDENV, FLDL2E, FLDL2T, FLDLG2, FLDLN2, FLDPI, FLDZ, FMUL, FMULP, FNCLEX, FNINIT, FNOP, FNSAVE, FNSTCW, FNSTENV, FNSTSW, FPATAN, FPREM, FPREM1, FPTAN, FRNDINT, FRSTOR, FSCALE, FSETPM287_NOP, FSIN, FSINCOS, FSQRT, FST, FSTP, FSTPNCE, FSUB, FSUBP, FSUBR, FSUBRP, FTST, FUCOM, FUCOMI, FUCOMIP, FUCOMP, FUCOMPP, FXAM, FXCH, FXRSTOR, FXSAVE, FXTRACT, FYL2X, FYL2XP1, HRESET, IDIV, IMUL, INC, INCSSP, INSERTQ, INVLPG, INVLPGA, INVLPGB, JMP, JMPF, LDMXCSR, LFENCE, LGDT, LIDT, LLDT, LMSW, LOADIWKEY, LTR, MFENCE, MONITOR, MONITORX, MOV, MOVHLPS, MOVHPS, MOVLHPS, MOVLPS, MUL, MWAIT, MWAITX, NEG, NOP, NOT, OR, PCONFIG, POP, PREFETCH0, PREFETCH1, PREFETCH2, PREFETCHNTA, PREFETCHW, PSLLD, PSLLDQ, PSLLQ, PSLLW, PSMASH, PSRAD, PSRAW, PSRLD, PSRLDQ, PSRLQ, PSRLW, PTWRITE, PUSH, PVALIDATE, RCL, RCR, RDFSBASE, RDGSBASE, RDPID, RDPKRU, RDPRU, RDRAND, RDSEED, RDTSCP, RMPADJUST, RMPUPDATE, ROL, ROR, RSTORSSP, SAL, SAR, SAVEPREVSSP, SBB, SEAMCALL, SEAMOPS, SEAMRET, SENDUIPI, SETSSBSY, SFENCE, SGDT, SHL, SHR, SIDT, SKINIT, SLDT, SMSW, STAC, STGI, STMXCSR, STR, STUI, SUB, SWAPGS, TDCALL, TEST, TESTUI, TLBSYNC, TPAUSE, UIRET, UMONITOR, UMWAIT, VERR, VERW, VMCALL, VMCLEAR, VMFUNC, VMLAUNCH, VMLOAD, VMMCALL, VMPTRLD, VMPTRST, VMRESUME, VMRUN, VMSAVE, VMXOFF, VMXON, WRFSBASE, WRGSBASE, WRPKRU, XABORT, XBEGIN, XEND, XGETBV, XOR, XRESLDTRK, XRSTOR, XRSTORS, XRSTORS64, XSAVE, XSAVEC, XSAVEC64, XSAVEOPT, XSAVES, XSAVES64, XSETBV, XSUSLDTRK, XTEST}
 use Rattle.x86_fields.specs.declared.sizes.Width.TheVariants.{B, W, D, Q, X, V, Vq, Dq}
-use Rattle.x86_groups.specs.Vocabulary.{Form, BadOpcode, BadOperand, Incomplete, AtModRM, AfterAddress, ClearsOperandSize, Register, Own, BySuffix, Name, Bytes, Of, GroupRow}
+use Rattle.x86_groups.specs.Vocabulary.{Form, BadOpcode, BadOperand, Incomplete, AtModRM, AfterAddress, ClearsOperandSize, Own, BySuffix, Name, Bytes, Of, FormRow}
 use Rattle.x86_forms.specs.declared.Form.TheVariants as form
-use Rattle.x86_groups.specs.declared.letters.Letter.TheVariants.{E, G, U, M, Gmm, Emm, Umm, Cr, Dr, I8, U8, X8, Iv, Jv, SignedOne, StRm, RdInReg}
-use Rattle.x86_groups.specs.declared.letters.Letters.TheVariants.{Zero, One, Two, Three, Four}
-use Rattle.x86_groups.specs.declared.rows.When.TheVariants.{Always, NoPrefix, NoRepeat, Only66, F2, F3, With66, F3With66, RexW, RexR}
-use Rattle.x86_groups.specs.declared.rows.Rm.TheVariants.{Any, Is, ZeroIfStrict}
-use Rattle.x86_groups.specs.Columns.{none}
-use Rattle.x86_groups.specs.Words.{at, mem, reg, both, mem_at, reg_at, both_at, reg_rm, by_reg, by_rm, cl, rax, eax, ecx, st0, ecx_in_rm, edx_in_rm, ecx_third, size, size_v, undecided, read, changing, refusal, otherwise}
+use Rattle.x86_operands.specs.declared.encodings.Last.TheVariants.{I8, U8, Iv, SignedOne}
+use Rattle.x86_operands.specs.declared.letters.Letter.TheVariants.{E, G, U, M, Gmm, Emm, Umm, Cr, Dr, X8, Jv, StRm, RdInReg, Last}
+use Rattle.x86_operands.specs.declared.letters.Letters.TheVariants.{Zero, One, Two, Three, Four}
+use Rattle.x86_operands.specs.declared.rows.When.TheVariants.{Always, NoPrefix, NoRepeat, Only66, F2, F3, With66, F3With66, RexW, RexR}
+use Rattle.x86_operands.specs.Columns.{none}
+use Rattle.x86_operands.specs.Words.{mem, reg, both, mem_at, reg_at, both_at, reg_from, reg_rm, rm_at, strict_rm, by_reg, by_rm, cl, rax, eax, ecx, st0, ecx_in_rm, edx_in_rm, ecx_third, size, size_v, undecided, read, changing, refusal, otherwise}
 
 -- of the groups none is left to the last line, for forms that have no rows
-unfoldable pub group_rows : Form → List GroupRow
+unfoldable pub group_rows : Form → List FormRow
 -- maps 0F38 and 0F3A: Key Locker
 group_rows form.ModRM_0xf30f38d8 =
     read mem Always (by_reg AESENCWIDE128KL AESDECWIDE128KL none none none none none none) (One M) (size 48) ∷
@@ -43,7 +43,7 @@ group_rows form.ModRM_0xf30f38fb =
     otherwise BadOpcode AfterAddress ∷ []
 -- HRESET, which needs F3 as the only prefix (group_fault)
 group_rows form.ModRM_0xf30f3af0 =
-    read reg Always (Name HRESET) (One U8) (size 0) ∷
+    read reg Always (Name HRESET) (One (Last U8)) (size 0) ∷
     otherwise BadOpcode AtModRM ∷ []
 -- map 0F: group 6
 group_rows form.ModRM_0x0f00 =
@@ -109,13 +109,13 @@ group_rows form.ModRM_0x0f18 =
 -- every mod. There are the control registers 0, 2, 3, 4 and 8, and the debug registers below 8
 group_rows form.Rq_Cq_0 =
     read (reg_at 0) Always Own (Two (U Q) Cr) (size 0) ∷
-    refusal (at Register 2 4 Any) RexR BadOperand AtModRM ∷
-    read (at Register 2 4 Any) Always Own (Two (U Q) Cr) (size 0) ∷
+    refusal (reg_from 2 4) RexR BadOperand AtModRM ∷
+    read (reg_from 2 4) Always Own (Two (U Q) Cr) (size 0) ∷
     otherwise BadOperand AtModRM ∷ []
 group_rows form.Cq_Rq_0 =
     read (reg_at 0) Always Own (Two Cr (U Q)) (size 0) ∷
-    refusal (at Register 2 4 Any) RexR BadOperand AtModRM ∷
-    read (at Register 2 4 Any) Always Own (Two Cr (U Q)) (size 0) ∷
+    refusal (reg_from 2 4) RexR BadOperand AtModRM ∷
+    read (reg_from 2 4) Always Own (Two Cr (U Q)) (size 0) ∷
     otherwise BadOperand AtModRM ∷ []
 group_rows form.Rq_Dq_0 =
     refusal reg RexR BadOperand AtModRM ∷
@@ -127,18 +127,18 @@ group_rows form.Dq_Rq_0 =
     otherwise BadOperand AtModRM ∷ []
 -- groups 12, 13 and 14
 group_rows form.ModRM_0x0f71 =
-    read reg Only66 (by_reg none none PSRLW none PSRAW none PSLLW none) (Two (U X) U8) size_v ∷
-    read reg NoPrefix (by_reg none none PSRLW none PSRAW none PSLLW none) (Two Umm U8) size_v ∷
+    read reg Only66 (by_reg none none PSRLW none PSRAW none PSLLW none) (Two (U X) (Last U8)) size_v ∷
+    read reg NoPrefix (by_reg none none PSRLW none PSRAW none PSLLW none) (Two Umm (Last U8)) size_v ∷
     refusal reg NoRepeat BadOpcode AfterAddress ∷
     otherwise BadOperand AfterAddress ∷ []
 group_rows form.ModRM_0x0f72 =
-    read reg Only66 (by_reg none none PSRLD none PSRAD none PSLLD none) (Two (U X) U8) size_v ∷
-    read reg NoPrefix (by_reg none none PSRLD none PSRAD none PSLLD none) (Two Umm U8) size_v ∷
+    read reg Only66 (by_reg none none PSRLD none PSRAD none PSLLD none) (Two (U X) (Last U8)) size_v ∷
+    read reg NoPrefix (by_reg none none PSRLD none PSRAD none PSLLD none) (Two Umm (Last U8)) size_v ∷
     refusal reg NoRepeat BadOpcode AfterAddress ∷
     otherwise BadOperand AfterAddress ∷ []
 group_rows form.ModRM_0x0f73 =
-    read reg Only66 (by_reg none none PSRLQ PSRLDQ none none PSLLQ PSLLDQ) (Two (U X) U8) size_v ∷
-    read reg NoPrefix (by_reg none none PSRLQ none none none PSLLQ none) (Two Umm U8) size_v ∷
+    read reg Only66 (by_reg none none PSRLQ PSRLDQ none none PSLLQ PSLLDQ) (Two (U X) (Last U8)) size_v ∷
+    read reg NoPrefix (by_reg none none PSRLQ none none none PSLLQ none) (Two Umm (Last U8)) size_v ∷
     refusal (reg_at 3) NoPrefix BadOperand AfterAddress ∷
     refusal (reg_at 7) NoPrefix BadOperand AfterAddress ∷
     refusal reg NoRepeat BadOpcode AfterAddress ∷
@@ -159,12 +159,12 @@ group_rows form.ModRM_0x0fae =
     read mem NoPrefix (by_reg FXSAVE FXRSTOR none none XSAVE XRSTOR XSAVEOPT none) (One M) undecided ∷
     read mem NoPrefix (by_reg none none LDMXCSR STMXCSR none none none none) (One M) (size 4) ∷
     read (mem_at 7) NoPrefix (Name CLFLUSH) (One M) (size 64) ∷
-    read (at Register 0 7 ZeroIfStrict) NoPrefix (by_reg none none none none none LFENCE MFENCE SFENCE) Zero (size 0) ∷
-    refusal (at Register 5 7 Any) NoPrefix BadOperand AtModRM ∷
+    read strict_rm NoPrefix (by_reg none none none none none LFENCE MFENCE SFENCE) Zero (size 0) ∷
+    refusal (reg_from 5 7) NoPrefix BadOperand AtModRM ∷
     otherwise BadOpcode AtModRM ∷ []
 -- group 8
 group_rows form.ModRM_0x0fba =
-    read both Always (by_reg none none none none BT BTS BTR BTC) (Two (E Vq) I8) (Of Vq, Bytes 0) ∷
+    read both Always (by_reg none none none none BT BTS BTR BTC) (Two (E Vq) (Last I8)) (Of Vq, Bytes 0) ∷
     otherwise BadOpcode AtModRM ∷ []
 -- group 9
 group_rows form.ModRM_0x0fc7 =
@@ -187,10 +187,10 @@ group_rows form.ModRM_0x0fc7 =
     otherwise BadOperand AtModRM ∷ []
 -- AMD APM volume 4, EXTRQ and INSERTQ
 group_rows form.ModRM_0x660f78 =
-    read (reg_at 0) Always (Name EXTRQ) (Three (U X) U8 X8) (size 0) ∷
+    read (reg_at 0) Always (Name EXTRQ) (Three (U X) (Last U8) X8) (size 0) ∷
     otherwise BadOperand AtModRM ∷ []
 group_rows form.ModRM_0xf20f78 =
-    read reg Always (Name INSERTQ) (Four (G X) (U X) U8 X8) (size 0) ∷
+    read reg Always (Name INSERTQ) (Four (G X) (U X) (Last U8) X8) (size 0) ∷
     otherwise BadOperand AtModRM ∷ []
 -- Intel SDM volume 2, ENDBR32 and ENDBR64
 group_rows form.ModRM_0xf30f1e =
@@ -198,36 +198,36 @@ group_rows form.ModRM_0xf30f1e =
     read (reg_rm 7 3) Always (Name ENDBR32) Zero (size 0) ∷
     read both Always (Name NOP) (Two (E V) (G V)) size_v ∷ []
 -- the one-byte map: group 1
-group_rows form.ModRM_0x80 = read both Always (by_reg ADD OR ADC SBB AND SUB XOR CMP) (Two (E B) I8) (size 1) ∷ []
-group_rows form.ModRM_0x81 = read both Always (by_reg ADD OR ADC SBB AND SUB XOR CMP) (Two (E V) Iv) size_v ∷ []
-group_rows form.ModRM_0x83 = read both Always (by_reg ADD OR ADC SBB AND SUB XOR CMP) (Two (E V) I8) size_v ∷ []
+group_rows form.ModRM_0x80 = read both Always (by_reg ADD OR ADC SBB AND SUB XOR CMP) (Two (E B) (Last I8)) (size 1) ∷ []
+group_rows form.ModRM_0x81 = read both Always (by_reg ADD OR ADC SBB AND SUB XOR CMP) (Two (E V) (Last Iv)) size_v ∷ []
+group_rows form.ModRM_0x83 = read both Always (by_reg ADD OR ADC SBB AND SUB XOR CMP) (Two (E V) (Last I8)) size_v ∷ []
 -- group 1A. Another reg is not built
 group_rows form.ModRM_0x8f =
     read (both_at 0) With66 (Name POP) (One (E V)) size_v ∷
     read (both_at 0) Always (Name POP) (One (E V)) (Bytes 8, Of V) ∷
     otherwise Incomplete AfterAddress ∷ []
 -- group 2
-group_rows form.ModRM_0xc0 = read both Always (by_reg ROL ROR RCL RCR SHL SHR SAL SAR) (Two (E B) I8) (size 1) ∷ []
-group_rows form.ModRM_0xc1 = read both Always (by_reg ROL ROR RCL RCR SHL SHR SAL SAR) (Two (E V) I8) size_v ∷ []
-group_rows form.ModRM_0xd0 = read both Always (by_reg ROL ROR RCL RCR SHL SHR SAL SAR) (Two (E B) SignedOne) (size 1) ∷ []
-group_rows form.ModRM_0xd1 = read both Always (by_reg ROL ROR RCL RCR SHL SHR SAL SAR) (Two (E V) SignedOne) size_v ∷ []
+group_rows form.ModRM_0xc0 = read both Always (by_reg ROL ROR RCL RCR SHL SHR SAL SAR) (Two (E B) (Last I8)) (size 1) ∷ []
+group_rows form.ModRM_0xc1 = read both Always (by_reg ROL ROR RCL RCR SHL SHR SAL SAR) (Two (E V) (Last I8)) size_v ∷ []
+group_rows form.ModRM_0xd0 = read both Always (by_reg ROL ROR RCL RCR SHL SHR SAL SAR) (Two (E B) (Last SignedOne)) (size 1) ∷ []
+group_rows form.ModRM_0xd1 = read both Always (by_reg ROL ROR RCL RCR SHL SHR SAL SAR) (Two (E V) (Last SignedOne)) size_v ∷ []
 group_rows form.ModRM_0xd2 = read both Always (by_reg ROL ROR RCL RCR SHL SHR SAL SAR) (Two (E B) cl) (size 1) ∷ []
 group_rows form.ModRM_0xd3 = read both Always (by_reg ROL ROR RCL RCR SHL SHR SAL SAR) (Two (E V) cl) size_v ∷ []
 -- group 11
 group_rows form.ModRM_0xc6 =
-    read (both_at 0) Always (Name MOV) (Two (E B) I8) (size 1) ∷
-    read (at Register 0 7 (Is 0)) Always (Name XABORT) (One I8) (size 1) ∷
+    read (both_at 0) Always (Name MOV) (Two (E B) (Last I8)) (size 1) ∷
+    read (rm_at 0) Always (Name XABORT) (One (Last I8)) (size 1) ∷
     otherwise BadOperand AfterAddress ∷ []
 group_rows form.ModRM_0xc7 =
-    read (both_at 0) Always (Name MOV) (Two (E V) Iv) size_v ∷
-    read (at Register 0 7 (Is 0)) Always (Name XBEGIN) (One Jv) size_v ∷
+    read (both_at 0) Always (Name MOV) (Two (E V) (Last Iv)) size_v ∷
+    read (rm_at 0) Always (Name XBEGIN) (One Jv) size_v ∷
     otherwise BadOperand AfterAddress ∷ []
 -- group 3
 group_rows form.ModRM_0xf6 =
-    read both Always (by_reg TEST TEST none none none none none none) (Two (E B) I8) (size 1) ∷
+    read both Always (by_reg TEST TEST none none none none none none) (Two (E B) (Last I8)) (size 1) ∷
     read both Always (by_reg none none NOT NEG MUL IMUL DIV IDIV) (One (E B)) (size 1) ∷ []
 group_rows form.ModRM_0xf7 =
-    read both Always (by_reg TEST TEST none none none none none none) (Two (E V) Iv) size_v ∷
+    read both Always (by_reg TEST TEST none none none none none none) (Two (E V) (Last Iv)) size_v ∷
     read both Always (by_reg none none NOT NEG MUL IMUL DIV IDIV) (One (E V)) size_v ∷ []
 -- groups 4 and 5
 group_rows form.ModRM_0xfe =

@@ -1,12 +1,8 @@
 -- The types that definitions and proofs of this crate import, with variants of them, and the words on prefixes, ModRM and
 -- registers.
 pub use Rattle.x86_operands.specs.Vocabulary.{DecodeError, Form, Prefixes, RegisterClass, TableRow, Width, class_of, has_r, has_w, is_memory, operand_size, reg_field, reg_spec, rep, repnz, rm_field, v_class, width_of}
-pub use Rattle.x86_operands.specs.declared.plans.OperandEncoding.{OperandEncoding}
-pub use Rattle.x86_operands.specs.declared.plans.OperandEncodings.{OperandEncodings}
 pub use Rattle.x86_operands.specs.declared.plans.Fault.{Fault}
 pub use Rattle.x86_operands.specs.declared.plans.Moment.{Moment}
-pub use Rattle.x86_operands.specs.declared.plans.Verdict.{Verdict}
-pub use Rattle.x86_operands.specs.declared.plans.PrefixChange.{PrefixChange}
 pub use Rattle.x86_operands.specs.declared.plans.ModrmUse.{ModrmUse}
 pub use Rattle.x86_operands.specs.declared.plans.Plan.{Plan}
 pub use Rattle.x86_operands.specs.declared.encodings.AfterOpcode.{AfterOpcode}
@@ -19,17 +15,13 @@ pub use Rattle.x86_operands.specs.declared.plans.Fault.TheVariants.{BadOpcode, B
 pub use Rattle.x86_operands.specs.declared.plans.Moment.TheVariants.{AtModRM, AfterAddress}
 pub use Rattle.x86_operands.specs.declared.plans.PrefixChange.TheVariants.{Keeps, ClearsOperandSize}
 pub use Rattle.x86_operands.specs.declared.plans.ModrmUse.TheVariants.{EitherForm, Registers}
-pub use Rattle.x86_groups.specs.declared.letters.Letter.{Letter}
-pub use Rattle.x86_groups.specs.declared.letters.Letters.{Letters}
-pub use Rattle.x86_groups.specs.declared.letters.RowSize.{RowSize}
-pub use Rattle.x86_groups.specs.declared.rows.Place.{Place}
-pub use Rattle.x86_groups.specs.declared.rows.When.{When}
-pub use Rattle.x86_groups.specs.declared.rows.Rm.{Rm}
-pub use Rattle.x86_groups.specs.declared.rows.Names.{Names}
-pub use Rattle.x86_groups.specs.declared.rows.Content.{Content}
-pub use Rattle.x86_groups.specs.declared.rows.Where.{Where}
-pub use Rattle.x86_groups.specs.declared.rows.GroupRow.{GroupRow}
-pub use Rattle.x86_groups.specs.declared.letters.RowSize.TheVariants.{Bytes, Of}
-pub use Rattle.x86_groups.specs.declared.rows.Place.TheVariants.{Memory, Register, Either}
-pub use Rattle.x86_groups.specs.declared.rows.Names.TheVariants.{Own, BySuffix, Name, ByReg, ByRm}
-pub use Rattle.x86_groups.specs.declared.rows.Content.TheVariants.{Reads, Refuses}
+pub use Rattle.x86_operands.specs.declared.letters.Letter.{Letter}
+pub use Rattle.x86_operands.specs.declared.letters.Letters.{Letters}
+pub use Rattle.x86_operands.specs.declared.letters.RowSize.{RowSize}
+pub use Rattle.x86_operands.specs.declared.rows.Rm.{Rm}
+pub use Rattle.x86_operands.specs.declared.rows.Names.{Names}
+pub use Rattle.x86_operands.specs.declared.rows.Content.{Content}
+pub use Rattle.x86_operands.specs.declared.rows.FormRow.{FormRow}
+pub use Rattle.x86_operands.specs.declared.letters.RowSize.TheVariants.{Bytes, Of, Named}
+pub use Rattle.x86_operands.specs.declared.rows.Names.TheVariants.{Own, BySuffix, Name}
+pub use Rattle.x86_operands.specs.declared.rows.Content.TheVariants.{Reads, Refuses}

@@ -2,12 +2,12 @@
 
 ghost use Rattle.std.specs.Prelude.{◌≡◌, IsTrue, true};
 ghost use Rattle.x86_operands.specs.Encodings.{is_sound, is_described};
-ghost use Rattle.x86_groups.specs.ByReg.{Chooses, has_either_form};
+ghost use Rattle.x86_groups.specs.Groups.{Chooses, has_either_form};
 
-use crate::rows::named;
 use crate::tables::REG_LINES;
 use x86_fields::ModRM;
 use x86_opcodes::Opcode;
+use x86_operands::rows::named;
 use x86_operands::{FormEncoding, RegGroup};
 
 /// What a reg chooses: the number of the operation, and the encoding of its operands.

@@ -13,12 +13,10 @@ ghost use Rattle.x86_operands.specs.declared.plans.Moment.{Moment};
 ghost use Rattle.x86_operands.specs.declared.plans.Moment.TheVariants.{AfterAddress};
 ghost use Rattle.x86_operands.specs.declared.plans.Verdict.TheVariants.{Refuses};
 ghost use Rattle.x86_forms.specs.Words.{carried};
-ghost use Rattle.x86_operands.specs.FormEncodings.{group_form};
+ghost use Rattle.x86_operands.specs.Forms.{group_form};
 ghost use Rattle.x86_operands.specs.PlanSteps.{record_step};
 ghost use Rattle.x86_operands.specs.declared.encodings.RegGroup.{RegGroup};
-ghost use Rattle.x86_groups.specs.ByReg.{reg_plan, reg_step};
-ghost use Rattle.x86_groups.specs.Choices.{IsFenceWithRm};
-ghost use Rattle.x86_groups.specs.Groups.{group_record, group_plan, operandless, bad_operand};
+ghost use Rattle.x86_groups.specs.Groups.{reg_plan, reg_step, IsFenceWithRm, group_record, group_plan, operandless, bad_operand};
 
 use x86_forms::Form;
 

@@ -16,9 +16,7 @@ ghost use Rattle.x86_groups.specs.Groups.{group_record, record_of};
 
 mod by_reg;
 pub mod laws;
-mod letters;
 mod plans;
-mod rows;
 mod tables;
 
 pub use by_reg::chosen;
@@ -55,10 +53,10 @@ pub fn read_row_into<T: Reader<u64, u8>>(
 /// What a row has after its opcode byte.
 #[tactic(auto, unfolding(x86_operands::specs::PlanSteps::record_step))]
 pub fn read_row<T: Reader<u64, u8>>(
-    strict: bool,
+    reader: &mut T,
     row: TableRow,
     prefixes: Prefixes,
-    reader: &mut T,
+    strict: bool,
 ) -> Result<Reading, DecodeError>
     requires { IsForm row.form }
     ensures { outcome result (T.state reader.new) ≡
@@ -87,5 +85,5 @@ pub fn read_group<T: Reader<u64, u8>>(
     ensures { outcome result (T.state words.new)
         ≡ record_step (group_record strict row prefixes) prefixes (T.state words.old) }
 {
-    read_row(strict, row, prefixes, words)
+    read_row(words, row, prefixes, strict)
 }

@@ -5,38 +5,30 @@ ghost use Rattle.std.specs.Prelude.{◌≡◌, Bool, true};
 ghost use Rattle.x86_forms.specs.Groups.{is_group};
 ghost use Rattle.x86_forms.specs.Words.{IsForm};
 ghost use Rattle.x86_operands.specs.Asks.{ask_of, record_at};
-ghost use Rattle.x86_groups.specs.Groups.{is_f3_alone, group_record, record_of};
+ghost use Rattle.x86_groups.specs.Groups.{group_record, record_of};
 
-use crate::rows::choose;
 use crate::tables::group_rows;
 use x86_fields::{ModRM, Prefixes};
 use x86_forms::{Form, TableRow};
 use x86_operands::plans::{Fault, ModrmUse, Plan};
-use x86_operands::{Ask, RecordAt, form_encoding, form_plan, plan_ask, used_modrm, used_or_none};
+use x86_operands::rows::choose;
+use x86_operands::{Ask, RecordAt, form_encoding, form_plan, plan_ask, used_modrm};
 use x86_regs::Segment;
 
-/// Whether F3 is in force, and nothing else.
-#[tactic(auto, unfolding(crate::specs::Groups::is_f3_alone))]
-fn is_f3_alone(prefixes: &Prefixes) -> bool
-    ensures { result ≡ is_f3_alone prefixes.now }
+/// The refusal of a row at its opcode byte: of HRESET, unless F3 alone is in force.
+#[tactic(auto, unfolding(crate::specs::Groups::is_f3_alone, crate::specs::Groups::group_record, x86_operands::specs::Forms::form_record))]
+pub fn row_fault(row: &TableRow, prefixes: &Prefixes) -> Option<Fault>
+    ensures { (strict : Bool) → result ≡ (record_of strict row.now prefixes.now).at_opcode }
 {
-    prefixes.rep()
+    let is_f3_alone = prefixes.rep()
         && !prefixes.operand_size()
         && !prefixes.address_size()
         && !prefixes.lock()
         && prefixes.segment() == Segment::DS
-        && prefixes.rex().is_none()
-}
-
-/// The refusal of a row at its opcode byte.
-#[tactic(auto, unfolding(crate::specs::Groups::group_record, x86_operands::specs::Forms::form_record))]
-pub fn row_fault(row: &TableRow, prefixes: &Prefixes) -> Option<Fault>
-    ensures { (strict : Bool) → result ≡ (record_of strict row.now prefixes.now).at_opcode }
-{
-    if matches!(row.form, Form::ModRM_0xf30f3af0) && !is_f3_alone(prefixes) {
-        Some(Fault::BadOpcode)
-    } else {
-        None
+        && prefixes.rex().is_none();
+    match row.form {
+        Form::ModRM_0xf30f3af0 if !is_f3_alone => Some(Fault::BadOpcode),
+        _ => None,
     }
 }
 
@@ -58,9 +50,9 @@ pub fn row_plan(row: &TableRow, strict: bool, prefixes: &Prefixes, modrm: ModRM)
     ensures { result ≡ (record_of strict row.now prefixes.now).plan modrm }
 {
     if row.form.is_group() {
-        choose(group_rows(row.form), strict, prefixes, modrm).plan(row.opcode, prefixes, modrm)
+        choose(group_rows(row.form), row, strict, prefixes, modrm).plan(row, prefixes, modrm)
     } else {
-        form_plan(row.form, row.opcode, prefixes, modrm)
+        form_plan(row, prefixes, modrm)
     }
 }
 
@@ -75,7 +67,7 @@ pub fn row_ask(row: TableRow, prefixes: Prefixes, modrm: u8) -> Ask
     ensures { (strict : Bool) → result ≡ ask_of (record_of strict row prefixes) modrm }
 {
     let usage = row_modrm(&row);
-    let modrm = used_modrm(usage, ModRM::new(modrm));
+    let modrm = used_modrm(usage, Some(modrm));
     let plan = row_plan(&row, false, &prefixes, modrm);
     plan_ask(usage, modrm, &plan)
 }
@@ -96,7 +88,7 @@ pub fn row_at(row: TableRow, prefixes: Prefixes, modrm: Option<u8>, strict: bool
     ensures { result ≡ record_at (record_of strict row prefixes) modrm }
 {
     let usage = row_modrm(&row);
-    let modrm = used_or_none(usage, modrm);
+    let modrm = used_modrm(usage, modrm);
     RecordAt {
         at_opcode: row_fault(&row, &prefixes),
         usage,

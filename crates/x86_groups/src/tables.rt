@@ -6,21 +6,29 @@ ghost use Rattle.std.specs.Prelude.{◌≡◌};
 ghost use Rattle.x86_groups.specs.Rows.{group_rows};
 
 use crate::by_reg::{RegLine, line, rows_alone};
-use crate::letters::Letter;
-use crate::letters::Letter::{
-    Cr, Dr, E, Emm, G, Gmm, I8, Iv, Jv, M, RdInReg, SignedOne, StRm, U, U8, Umm, X8,
-};
-use crate::letters::Letters::{Four, One, Three, Two, Zero};
-use crate::letters::RowSize::{Bytes, Of};
-use crate::rows::Names::{ByReg, ByRm, BySuffix, Name, Own};
-use crate::rows::Rm::{Any, Is, ZeroIfStrict};
-use crate::rows::{Content, GroupRow, Place, When, Where, read, refusal};
 use x86_fields::Width::{B, D, Dq, Q, V, Vq, W, X};
 use x86_forms::Form;
 use x86_operands::AfterOpcode::ByPlan;
-use x86_operands::plans::{Fault, ModrmUse, Moment, PrefixChange, RegisterSlot};
-use x86_operands::{encoded, other};
+use x86_operands::letters::Letter;
+use x86_operands::letters::Letter::{Cr, Dr, E, Emm, G, Gmm, Jv, M, RdInReg, StRm, U, Umm, X8};
+use x86_operands::letters::Letters::{Four, One, Three, Two, Zero};
+use x86_operands::letters::RowSize::{Bytes, Of};
+use x86_operands::plans::{ModrmUse, RegisterSlot};
+use x86_operands::rows::Names::{ByReg, ByRm, BySuffix, Name, Own};
+use x86_operands::rows::When::{
+    Always, F2, F3, F3With66, NoPrefix, NoRepeat, Only66, RexR, RexW, With66,
+};
+use x86_operands::rows::{FormRow, Reg, Rm};
+use x86_operands::{Last, encoded, other, read, refusal};
 use x86_regs::RegisterClass;
+
+const I8: Letter = Letter::Last(Last::I8);
+
+const IV: Letter = Letter::Last(Last::Iv);
+
+const SIGNED_ONE: Letter = Letter::Last(Last::SignedOne);
+
+const U8: Letter = Letter::Last(Last::U8);
 
 const CL: Letter = Letter::Implied(RegisterSlot::Reg, 1, RegisterClass::B);
 
@@ -38,384 +46,384 @@ const EDX_IN_RM: Letter = Letter::Implied(RegisterSlot::Rm, 2, RegisterClass::D)
 
 const ECX_THIRD: Letter = Letter::Implied(RegisterSlot::Third, 1, RegisterClass::D);
 
-const ROWS_F30F38D8: &[GroupRow; 4] = &[
-    read!(Memory 0 7 Any; Always; ByReg([424, 420, 0, 0, 0, 0, 0, 0]); One(M); Bytes(48); Bytes(48)),
-    read!(Memory 0 7 Any; Always; ByReg([0, 0, 425, 421, 0, 0, 0, 0]); One(M); Bytes(64); Bytes(64)),
-    refusal!(Memory 0 7 Any; Always; BadOpcode AfterAddress),
-    refusal!(Either 0 7 Any; Always; BadOperand AtModRM),
+const ROWS_F30F38D8: &[FormRow; 4] = &[
+    read!(Memory Reg::Any, Rm::Any; Always; ByReg([424, 420, 0, 0, 0, 0, 0, 0]); One(M); Bytes(48); Bytes(48)),
+    read!(Memory Reg::Any, Rm::Any; Always; ByReg([0, 0, 425, 421, 0, 0, 0, 0]); One(M); Bytes(64); Bytes(64)),
+    refusal!(Memory Reg::Any, Rm::Any; Always; Zero; BadOpcode AfterAddress),
+    refusal!(Either Reg::Any, Rm::Any; Always; Zero; BadOperand AtModRM),
 ];
 
-const ROWS_F30F38DC: &[GroupRow; 2] = &[
-    read!(Memory 0 7 Any; Always; Name(422); Two(G(X), E(X)); Bytes(48); Bytes(48)),
-    read!(Register 0 7 Any; Always; Name(563); Two(G(X), E(X)); Of(V); Of(V)),
+const ROWS_F30F38DC: &[FormRow; 2] = &[
+    read!(Memory Reg::Any, Rm::Any; Always; Name(422); Two(G(X), E(X)); Bytes(48); Bytes(48)),
+    read!(Register Reg::Any, Rm::Any; Always; Name(563); Two(G(X), E(X)); Of(V); Of(V)),
 ];
 
-const ROWS_F30F38DD: &[GroupRow; 2] = &[
-    read!(Memory 0 7 Any; Always; Name(418); Two(G(X), M); Bytes(48); Bytes(48)),
-    refusal!(Either 0 7 Any; Always; BadOperand AtModRM),
+const ROWS_F30F38DD: &[FormRow; 2] = &[
+    read!(Memory Reg::Any, Rm::Any; Always; Name(418); Two(G(X), M); Bytes(48); Bytes(48)),
+    refusal!(Either Reg::Any, Rm::Any; Always; Zero; BadOperand AtModRM),
 ];
 
-const ROWS_F30F38DE: &[GroupRow; 2] = &[
-    read!(Memory 0 7 Any; Always; Name(423); Two(G(X), M); Bytes(64); Bytes(64)),
-    refusal!(Either 0 7 Any; Always; BadOperand AtModRM),
+const ROWS_F30F38DE: &[FormRow; 2] = &[
+    read!(Memory Reg::Any, Rm::Any; Always; Name(423); Two(G(X), M); Bytes(64); Bytes(64)),
+    refusal!(Either Reg::Any, Rm::Any; Always; Zero; BadOperand AtModRM),
 ];
 
-const ROWS_F30F38DF: &[GroupRow; 2] = &[
-    read!(Memory 0 7 Any; Always; Name(419); Two(G(X), M); Bytes(64); Bytes(64)),
-    refusal!(Either 0 7 Any; Always; BadOperand AtModRM),
+const ROWS_F30F38DF: &[FormRow; 2] = &[
+    read!(Memory Reg::Any, Rm::Any; Always; Name(419); Two(G(X), M); Bytes(64); Bytes(64)),
+    refusal!(Either Reg::Any, Rm::Any; Always; Zero; BadOperand AtModRM),
 ];
 
-const ROWS_F30F38FA: &[GroupRow; 2] = &[
-    read!(Register 0 7 Any; Always; Name(448); Two(G(D), U(D)); Of(V); Of(V)),
-    refusal!(Either 0 7 Any; Always; BadOpcode AfterAddress),
+const ROWS_F30F38FA: &[FormRow; 2] = &[
+    read!(Register Reg::Any, Rm::Any; Always; Name(448); Two(G(D), U(D)); Of(V); Of(V)),
+    refusal!(Either Reg::Any, Rm::Any; Always; Zero; BadOpcode AfterAddress),
 ];
 
-const ROWS_F30F38FB: &[GroupRow; 2] = &[
-    read!(Register 0 7 Any; Always; Name(449); Two(G(D), U(D)); Of(V); Of(V)),
-    refusal!(Either 0 7 Any; Always; BadOpcode AfterAddress),
+const ROWS_F30F38FB: &[FormRow; 2] = &[
+    read!(Register Reg::Any, Rm::Any; Always; Name(449); Two(G(D), U(D)); Of(V); Of(V)),
+    refusal!(Either Reg::Any, Rm::Any; Always; Zero; BadOpcode AfterAddress),
 ];
 
-const ROWS_F30F3AF0: &[GroupRow; 2] = &[
-    read!(Register 0 7 Any; Always; Name(545); One(U8); Bytes(0); Bytes(0)),
-    refusal!(Either 0 7 Any; Always; BadOpcode AtModRM),
+const ROWS_F30F3AF0: &[FormRow; 2] = &[
+    read!(Register Reg::Any, Rm::Any; Always; Name(545); One(U8); Bytes(0); Bytes(0)),
+    refusal!(Either Reg::Any, Rm::Any; Always; Zero; BadOpcode AtModRM),
 ];
 
-const ROWS_0F00: &[GroupRow; 2] = &[
-    read!(Either 0 7 Any; Always; ByReg([641, 646, 561, 564, 656, 657, 0, 0]); One(E(W)); Bytes(2); Bytes(0)),
-    refusal!(Either 0 7 Any; Always; BadOperand AtModRM),
+const ROWS_0F00: &[FormRow; 2] = &[
+    read!(Either Reg::Any, Rm::Any; Always; ByReg([641, 646, 561, 564, 656, 657, 0, 0]); One(E(W)); Bytes(2); Bytes(0)),
+    refusal!(Either Reg::Any, Rm::Any; Always; Zero; BadOperand AtModRM),
 ];
 
-const ROWS_0F01: &[GroupRow; 36] = &[
-    read!(Memory 0 0 Any; Always; Name(636); One(M); Bytes(10); Bytes(10)),
-    read!(Memory 1 1 Any; Always; Name(639); One(M); Bytes(10); Bytes(10)),
-    read!(Memory 2 2 Any; Always; Name(559); One(M); Bytes(10); Bytes(10)),
-    read!(Memory 3 3 Any; Always; Name(560); One(M); Bytes(10); Bytes(10)),
-    read!(Memory 4 4 Any; Always; Name(642); One(M); Bytes(2); Bytes(2)),
-    read!(Memory 5 5 Any; F3; Name(626); One(M); Bytes(8); Bytes(8)),
-    read!(Memory 6 6 Any; Always; Name(562); One(M); Bytes(2); Bytes(2)),
-    read!(Memory 7 7 Any; Always; Name(549); One(M); Bytes(1); Bytes(1)),
-    read!(Register 0 0 Any; NoPrefix; ByRm([447, 658, 661, 666, 669, 576, 0, 0]); Zero; Bytes(0); Bytes(0)),
-    refusal!(Register 0 0 Any; NoPrefix; BadOpcode AtModRM),
-    read!(Register 1 1 Is(0); NoPrefix; Name(566); Zero; Bytes(1); Bytes(1)),
-    read!(Register 1 1 Any; NoPrefix; ByRm([0, 571, 430, 643, 0, 0, 0, 445]); Zero; Bytes(0); Bytes(0)),
-    read!(Register 1 1 Any; Only66; ByRm([0, 0, 0, 0, 649, 632, 631, 630]); Zero; Bytes(0); Bytes(0)),
-    read!(Register 2 2 Any; NoPrefix; ByRm([677, 688, 0, 0, 660, 676, 690, 446]); Zero; Bytes(0); Bytes(0)),
-    refusal!(Register 2 2 Any; NoPrefix; BadOpcode AtModRM),
-    refusal!(Register 0 0 Any; Always; BadOperand AtModRM),
-    refusal!(Register 2 2 Any; Always; BadOperand AtModRM),
-    read!(Register 3 3 Is(0); Always; Name(667); One(RAX); Bytes(0); Bytes(0)),
-    read!(Register 3 3 Is(2); Always; Name(662); One(RAX); Bytes(0); Bytes(0)),
-    read!(Register 3 3 Is(3); Always; Name(668); One(RAX); Bytes(0); Bytes(0)),
-    read!(Register 3 3 Is(6); Always; Name(640); One(EAX); Bytes(0); Bytes(0)),
-    read!(Register 3 3 Is(7); Always; Name(550); Two(RAX, ECX_IN_RM); Bytes(0); Bytes(0)),
-    read!(Register 3 3 Any; Always; ByRm([0, 663, 0, 0, 644, 433, 0, 0]); Zero; Bytes(0); Bytes(0)),
-    read!(Register 4 4 Any; Always; Name(642); One(U(V)); Bytes(2); Bytes(2)),
-    read!(Register 5 5 Any; F2; ByRm([689, 678, 0, 0, 0, 0, 0, 0]); Zero; Bytes(0); Bytes(0)),
-    read!(Register 5 5 Any; F3; ByRm([634, 0, 629, 0, 653, 650, 435, 647]); Zero; Bytes(0); Bytes(0)),
-    read!(Register 5 5 Any; NoPrefix; ByRm([0, 0, 0, 0, 0, 0, 617, 673]); Zero; Bytes(0); Bytes(0)),
-    read!(Register 6 6 Any; Always; Name(562); One(U(W)); Bytes(2); Bytes(2)),
-    read!(Register 7 7 Any; Always; ByRm([648, 621, 567, 572, 437, 0, 0, 0]); Zero; Bytes(0); Bytes(0)),
-    read!(Register 7 7 Is(5); Always; Name(618); One(ECX); Bytes(0); Bytes(0)),
-    refusal!(Register 7 7 Any; With66; BadOperand AtModRM),
-    read!(Register 7 7 Any; F3; ByRm([0, 0, 0, 0, 0, 0, 622, 607]); Zero; Bytes(0); Bytes(0)),
-    read!(Register 7 7 Any; F2; ByRm([0, 0, 0, 0, 0, 0, 623, 611]); Zero; Bytes(0); Bytes(0)),
-    read!(Register 7 7 Is(6); Always; Name(551); Three(RAX, EDX_IN_RM, ECX_THIRD); Bytes(0); Bytes(0)),
-    read!(Register 7 7 Is(7); Always; Name(651); Zero; Bytes(0); Bytes(0)),
-    refusal!(Either 0 7 Any; Always; BadOpcode AtModRM),
+const ROWS_0F01: &[FormRow; 36] = &[
+    read!(Memory Reg::Is(0), Rm::Any; Always; Name(636); One(M); Bytes(10); Bytes(10)),
+    read!(Memory Reg::Is(1), Rm::Any; Always; Name(639); One(M); Bytes(10); Bytes(10)),
+    read!(Memory Reg::Is(2), Rm::Any; Always; Name(559); One(M); Bytes(10); Bytes(10)),
+    read!(Memory Reg::Is(3), Rm::Any; Always; Name(560); One(M); Bytes(10); Bytes(10)),
+    read!(Memory Reg::Is(4), Rm::Any; Always; Name(642); One(M); Bytes(2); Bytes(2)),
+    read!(Memory Reg::Is(5), Rm::Any; F3; Name(626); One(M); Bytes(8); Bytes(8)),
+    read!(Memory Reg::Is(6), Rm::Any; Always; Name(562); One(M); Bytes(2); Bytes(2)),
+    read!(Memory Reg::Is(7), Rm::Any; Always; Name(549); One(M); Bytes(1); Bytes(1)),
+    read!(Register Reg::Is(0), Rm::Any; NoPrefix; ByRm([447, 658, 661, 666, 669, 576, 0, 0]); Zero; Bytes(0); Bytes(0)),
+    refusal!(Register Reg::Is(0), Rm::Any; NoPrefix; Zero; BadOpcode AtModRM),
+    read!(Register Reg::Is(1), Rm::Is(0); NoPrefix; Name(566); Zero; Bytes(1); Bytes(1)),
+    read!(Register Reg::Is(1), Rm::Any; NoPrefix; ByRm([0, 571, 430, 643, 0, 0, 0, 445]); Zero; Bytes(0); Bytes(0)),
+    read!(Register Reg::Is(1), Rm::Any; Only66; ByRm([0, 0, 0, 0, 649, 632, 631, 630]); Zero; Bytes(0); Bytes(0)),
+    read!(Register Reg::Is(2), Rm::Any; NoPrefix; ByRm([677, 688, 0, 0, 660, 676, 690, 446]); Zero; Bytes(0); Bytes(0)),
+    refusal!(Register Reg::Is(2), Rm::Any; NoPrefix; Zero; BadOpcode AtModRM),
+    refusal!(Register Reg::Is(0), Rm::Any; Always; Zero; BadOperand AtModRM),
+    refusal!(Register Reg::Is(2), Rm::Any; Always; Zero; BadOperand AtModRM),
+    read!(Register Reg::Is(3), Rm::Is(0); Always; Name(667); One(RAX); Bytes(0); Bytes(0)),
+    read!(Register Reg::Is(3), Rm::Is(2); Always; Name(662); One(RAX); Bytes(0); Bytes(0)),
+    read!(Register Reg::Is(3), Rm::Is(3); Always; Name(668); One(RAX); Bytes(0); Bytes(0)),
+    read!(Register Reg::Is(3), Rm::Is(6); Always; Name(640); One(EAX); Bytes(0); Bytes(0)),
+    read!(Register Reg::Is(3), Rm::Is(7); Always; Name(550); Two(RAX, ECX_IN_RM); Bytes(0); Bytes(0)),
+    read!(Register Reg::Is(3), Rm::Any; Always; ByRm([0, 663, 0, 0, 644, 433, 0, 0]); Zero; Bytes(0); Bytes(0)),
+    read!(Register Reg::Is(4), Rm::Any; Always; Name(642); One(U(V)); Bytes(2); Bytes(2)),
+    read!(Register Reg::Is(5), Rm::Any; F2; ByRm([689, 678, 0, 0, 0, 0, 0, 0]); Zero; Bytes(0); Bytes(0)),
+    read!(Register Reg::Is(5), Rm::Any; F3; ByRm([634, 0, 629, 0, 653, 650, 435, 647]); Zero; Bytes(0); Bytes(0)),
+    read!(Register Reg::Is(5), Rm::Any; NoPrefix; ByRm([0, 0, 0, 0, 0, 0, 617, 673]); Zero; Bytes(0); Bytes(0)),
+    read!(Register Reg::Is(6), Rm::Any; Always; Name(562); One(U(W)); Bytes(2); Bytes(2)),
+    read!(Register Reg::Is(7), Rm::Any; Always; ByRm([648, 621, 567, 572, 437, 0, 0, 0]); Zero; Bytes(0); Bytes(0)),
+    read!(Register Reg::Is(7), Rm::Is(5); Always; Name(618); One(ECX); Bytes(0); Bytes(0)),
+    refusal!(Register Reg::Is(7), Rm::Any; With66; Zero; BadOperand AtModRM),
+    read!(Register Reg::Is(7), Rm::Any; F3; ByRm([0, 0, 0, 0, 0, 0, 622, 607]); Zero; Bytes(0); Bytes(0)),
+    read!(Register Reg::Is(7), Rm::Any; F2; ByRm([0, 0, 0, 0, 0, 0, 623, 611]); Zero; Bytes(0); Bytes(0)),
+    read!(Register Reg::Is(7), Rm::Is(6); Always; Name(551); Three(RAX, EDX_IN_RM, ECX_THIRD); Bytes(0); Bytes(0)),
+    read!(Register Reg::Is(7), Rm::Is(7); Always; Name(651); Zero; Bytes(0); Bytes(0)),
+    refusal!(Either Reg::Any, Rm::Any; Always; Zero; BadOpcode AtModRM),
 ];
 
-const ROWS_0F0D: &[GroupRow; 3] = &[
-    read!(Memory 1 1 Any; Always; Name(605); One(M); Bytes(64); Bytes(64)),
-    read!(Memory 0 7 Any; Always; Name(76); One(M); Bytes(64); Bytes(64)),
-    refusal!(Either 0 7 Any; Always; BadOperand AtModRM),
+const ROWS_0F0D: &[FormRow; 3] = &[
+    read!(Memory Reg::Is(1), Rm::Any; Always; Name(605); One(M); Bytes(64); Bytes(64)),
+    read!(Memory Reg::Any, Rm::Any; Always; Name(76); One(M); Bytes(64); Bytes(64)),
+    refusal!(Either Reg::Any, Rm::Any; Always; Zero; BadOperand AtModRM),
 ];
 
-const ROWS_0F0F: &[GroupRow; 1] = &[
-    read!(Either 0 7 Any; Always; BySuffix; Two(Gmm, Emm); Bytes(8); Of(V)),
+const ROWS_0F0F: &[FormRow; 1] = &[
+    read!(Either Reg::Any, Rm::Any; Always; BySuffix; Two(Gmm, Emm); Bytes(8); Of(V)),
 ];
 
-const ROWS_0F12: &[GroupRow; 2] = &[
-    read!(Memory 0 7 Any; Always; Name(195); Two(G(X), E(X)); Bytes(8); Bytes(8)),
-    read!(Register 0 7 Any; Always; Name(568); Two(G(X), E(X)); Of(V); Of(V)),
+const ROWS_0F12: &[FormRow; 2] = &[
+    read!(Memory Reg::Any, Rm::Any; Always; Name(195); Two(G(X), E(X)); Bytes(8); Bytes(8)),
+    read!(Register Reg::Any, Rm::Any; Always; Name(568); Two(G(X), E(X)); Of(V); Of(V)),
 ];
 
-const ROWS_0F16: &[GroupRow; 2] = &[
-    read!(Memory 0 7 Any; Always; Name(196); Two(G(X), E(X)); Bytes(8); Bytes(8)),
-    read!(Register 0 7 Any; Always; Name(569); Two(G(X), E(X)); Of(V); Of(V)),
+const ROWS_0F16: &[FormRow; 2] = &[
+    read!(Memory Reg::Any, Rm::Any; Always; Name(196); Two(G(X), E(X)); Bytes(8); Bytes(8)),
+    read!(Register Reg::Any, Rm::Any; Always; Name(569); Two(G(X), E(X)); Of(V); Of(V)),
 ];
 
-const ROWS_0F18: &[GroupRow; 2] = &[
-    read!(Memory 0 7 Any; Always; ByReg([604, 601, 602, 603, 0, 0, 0, 0]); One(E(V)); Bytes(64); Bytes(64)),
-    read!(Either 0 7 Any; Always; Name(76); One(E(V)); Bytes(64); Of(V)),
+const ROWS_0F18: &[FormRow; 2] = &[
+    read!(Memory Reg::Any, Rm::Any; Always; ByReg([604, 601, 602, 603, 0, 0, 0, 0]); One(E(V)); Bytes(64); Bytes(64)),
+    read!(Either Reg::Any, Rm::Any; Always; Name(76); One(E(V)); Bytes(64); Of(V)),
 ];
 
-const ROWS_RQ_CQ_0: &[GroupRow; 4] = &[
-    read!(Register 0 0 Any; Always; Own; Two(U(Q), Cr); Bytes(0); Bytes(0)),
-    refusal!(Register 2 4 Any; RexR; BadOperand AtModRM),
-    read!(Register 2 4 Any; Always; Own; Two(U(Q), Cr); Bytes(0); Bytes(0)),
-    refusal!(Either 0 7 Any; Always; BadOperand AtModRM),
+const ROWS_RQ_CQ_0: &[FormRow; 4] = &[
+    read!(Register Reg::Is(0), Rm::Any; Always; Own; Two(U(Q), Cr); Bytes(0); Bytes(0)),
+    refusal!(Register Reg::From(2, 4), Rm::Any; RexR; Zero; BadOperand AtModRM),
+    read!(Register Reg::From(2, 4), Rm::Any; Always; Own; Two(U(Q), Cr); Bytes(0); Bytes(0)),
+    refusal!(Either Reg::Any, Rm::Any; Always; Zero; BadOperand AtModRM),
 ];
 
-const ROWS_CQ_RQ_0: &[GroupRow; 4] = &[
-    read!(Register 0 0 Any; Always; Own; Two(Cr, U(Q)); Bytes(0); Bytes(0)),
-    refusal!(Register 2 4 Any; RexR; BadOperand AtModRM),
-    read!(Register 2 4 Any; Always; Own; Two(Cr, U(Q)); Bytes(0); Bytes(0)),
-    refusal!(Either 0 7 Any; Always; BadOperand AtModRM),
+const ROWS_CQ_RQ_0: &[FormRow; 4] = &[
+    read!(Register Reg::Is(0), Rm::Any; Always; Own; Two(Cr, U(Q)); Bytes(0); Bytes(0)),
+    refusal!(Register Reg::From(2, 4), Rm::Any; RexR; Zero; BadOperand AtModRM),
+    read!(Register Reg::From(2, 4), Rm::Any; Always; Own; Two(Cr, U(Q)); Bytes(0); Bytes(0)),
+    refusal!(Either Reg::Any, Rm::Any; Always; Zero; BadOperand AtModRM),
 ];
 
-const ROWS_RQ_DQ_0: &[GroupRow; 3] = &[
-    refusal!(Register 0 7 Any; RexR; BadOperand AtModRM),
-    read!(Register 0 7 Any; Always; Own; Two(U(Q), Dr); Bytes(0); Bytes(0)),
-    refusal!(Either 0 7 Any; Always; BadOperand AtModRM),
+const ROWS_RQ_DQ_0: &[FormRow; 3] = &[
+    refusal!(Register Reg::Any, Rm::Any; RexR; Zero; BadOperand AtModRM),
+    read!(Register Reg::Any, Rm::Any; Always; Own; Two(U(Q), Dr); Bytes(0); Bytes(0)),
+    refusal!(Either Reg::Any, Rm::Any; Always; Zero; BadOperand AtModRM),
 ];
 
-const ROWS_DQ_RQ_0: &[GroupRow; 3] = &[
-    refusal!(Register 0 7 Any; RexR; BadOperand AtModRM),
-    read!(Register 0 7 Any; Always; Own; Two(Dr, U(Q)); Bytes(0); Bytes(0)),
-    refusal!(Either 0 7 Any; Always; BadOperand AtModRM),
+const ROWS_DQ_RQ_0: &[FormRow; 3] = &[
+    refusal!(Register Reg::Any, Rm::Any; RexR; Zero; BadOperand AtModRM),
+    read!(Register Reg::Any, Rm::Any; Always; Own; Two(Dr, U(Q)); Bytes(0); Bytes(0)),
+    refusal!(Either Reg::Any, Rm::Any; Always; Zero; BadOperand AtModRM),
 ];
 
-const ROWS_0F71: &[GroupRow; 4] = &[
-    read!(Register 0 7 Any; Only66; ByReg([0, 0, 151, 0, 165, 0, 178, 0]); Two(U(X), U8); Of(V); Of(V)),
-    read!(Register 0 7 Any; NoPrefix; ByReg([0, 0, 151, 0, 165, 0, 178, 0]); Two(Umm, U8); Of(V); Of(V)),
-    refusal!(Register 0 7 Any; NoRepeat; BadOpcode AfterAddress),
-    refusal!(Either 0 7 Any; Always; BadOperand AfterAddress),
+const ROWS_0F71: &[FormRow; 4] = &[
+    read!(Register Reg::Any, Rm::Any; Only66; ByReg([0, 0, 151, 0, 165, 0, 178, 0]); Two(U(X), U8); Of(V); Of(V)),
+    read!(Register Reg::Any, Rm::Any; NoPrefix; ByReg([0, 0, 151, 0, 165, 0, 178, 0]); Two(Umm, U8); Of(V); Of(V)),
+    refusal!(Register Reg::Any, Rm::Any; NoRepeat; Zero; BadOpcode AfterAddress),
+    refusal!(Either Reg::Any, Rm::Any; Always; Zero; BadOperand AfterAddress),
 ];
 
-const ROWS_0F72: &[GroupRow; 4] = &[
-    read!(Register 0 7 Any; Only66; ByReg([0, 0, 152, 0, 166, 0, 179, 0]); Two(U(X), U8); Of(V); Of(V)),
-    read!(Register 0 7 Any; NoPrefix; ByReg([0, 0, 152, 0, 166, 0, 179, 0]); Two(Umm, U8); Of(V); Of(V)),
-    refusal!(Register 0 7 Any; NoRepeat; BadOpcode AfterAddress),
-    refusal!(Either 0 7 Any; Always; BadOperand AfterAddress),
+const ROWS_0F72: &[FormRow; 4] = &[
+    read!(Register Reg::Any, Rm::Any; Only66; ByReg([0, 0, 152, 0, 166, 0, 179, 0]); Two(U(X), U8); Of(V); Of(V)),
+    read!(Register Reg::Any, Rm::Any; NoPrefix; ByReg([0, 0, 152, 0, 166, 0, 179, 0]); Two(Umm, U8); Of(V); Of(V)),
+    refusal!(Register Reg::Any, Rm::Any; NoRepeat; Zero; BadOpcode AfterAddress),
+    refusal!(Either Reg::Any, Rm::Any; Always; Zero; BadOperand AfterAddress),
 ];
 
-const ROWS_0F73: &[GroupRow; 6] = &[
-    read!(Register 0 7 Any; Only66; ByReg([0, 0, 153, 608, 0, 0, 180, 606]); Two(U(X), U8); Of(V); Of(V)),
-    read!(Register 0 7 Any; NoPrefix; ByReg([0, 0, 153, 0, 0, 0, 180, 0]); Two(Umm, U8); Of(V); Of(V)),
-    refusal!(Register 3 3 Any; NoPrefix; BadOperand AfterAddress),
-    refusal!(Register 7 7 Any; NoPrefix; BadOperand AfterAddress),
-    refusal!(Register 0 7 Any; NoRepeat; BadOpcode AfterAddress),
-    refusal!(Either 0 7 Any; Always; BadOperand AfterAddress),
+const ROWS_0F73: &[FormRow; 6] = &[
+    read!(Register Reg::Any, Rm::Any; Only66; ByReg([0, 0, 153, 608, 0, 0, 180, 606]); Two(U(X), U8); Of(V); Of(V)),
+    read!(Register Reg::Any, Rm::Any; NoPrefix; ByReg([0, 0, 153, 0, 0, 0, 180, 0]); Two(Umm, U8); Of(V); Of(V)),
+    refusal!(Register Reg::Is(3), Rm::Any; NoPrefix; Zero; BadOperand AfterAddress),
+    refusal!(Register Reg::Is(7), Rm::Any; NoPrefix; Zero; BadOperand AfterAddress),
+    refusal!(Register Reg::Any, Rm::Any; NoRepeat; Zero; BadOpcode AfterAddress),
+    refusal!(Either Reg::Any, Rm::Any; Always; Zero; BadOperand AfterAddress),
 ];
 
-const ROWS_0FAE: &[GroupRow; 17] = &[
-    read!(Register 6 6 Any; F2; Name(655); One(RdInReg); Bytes(0); Bytes(0)),
-    refusal!(Memory 0 7 Any; F2; BadOperand AtModRM),
-    refusal!(Either 4 4 Any; F3With66; BadOpcode AtModRM),
-    read!(Either 4 4 Any; F3; Name(610); One(E(Dq)); Of(Dq); Bytes(0)),
-    read!(Memory 6 6 Any; F3; Name(434); One(M); Bytes(8); Bytes(8)),
-    refusal!(Memory 0 7 Any; F3; BadOperand AtModRM),
-    read!(Register 0 7 Any; F3; ByReg([614, 615, 671, 672, 0, 548, 0, 0]); One(U(Dq)); Bytes(0); Bytes(0)),
-    read!(Register 6 6 Any; F3; Name(654); One(U(Q)); Bytes(0); Bytes(0)),
-    read!(Memory 6 6 Any; Only66; Name(436); One(M); Bytes(64); Bytes(64); ClearsOperandSize),
-    read!(Memory 7 7 Any; Only66; Name(432); One(M); Bytes(64); Bytes(64); ClearsOperandSize),
-    read!(Register 6 6 Any; Only66; Name(652); One(U(D)); Bytes(0); Bytes(0); ClearsOperandSize),
-    read!(Memory 0 7 Any; NoPrefix; ByReg([541, 540, 0, 0, 682, 679, 685, 0]); One(M); Bytes(63); Bytes(63)),
-    read!(Memory 0 7 Any; NoPrefix; ByReg([0, 0, 557, 645, 0, 0, 0, 0]); One(M); Bytes(4); Bytes(4)),
-    read!(Memory 7 7 Any; NoPrefix; Name(431); One(M); Bytes(64); Bytes(64)),
-    read!(Register 0 7 ZeroIfStrict; NoPrefix; ByReg([0, 0, 0, 0, 0, 558, 565, 635]); Zero; Bytes(0); Bytes(0)),
-    refusal!(Register 5 7 Any; NoPrefix; BadOperand AtModRM),
-    refusal!(Either 0 7 Any; Always; BadOpcode AtModRM),
+const ROWS_0FAE: &[FormRow; 17] = &[
+    read!(Register Reg::Is(6), Rm::Any; F2; Name(655); One(RdInReg); Bytes(0); Bytes(0)),
+    refusal!(Memory Reg::Any, Rm::Any; F2; Zero; BadOperand AtModRM),
+    refusal!(Either Reg::Is(4), Rm::Any; F3With66; Zero; BadOpcode AtModRM),
+    read!(Either Reg::Is(4), Rm::Any; F3; Name(610); One(E(Dq)); Of(Dq); Bytes(0)),
+    read!(Memory Reg::Is(6), Rm::Any; F3; Name(434); One(M); Bytes(8); Bytes(8)),
+    refusal!(Memory Reg::Any, Rm::Any; F3; Zero; BadOperand AtModRM),
+    read!(Register Reg::Any, Rm::Any; F3; ByReg([614, 615, 671, 672, 0, 548, 0, 0]); One(U(Dq)); Bytes(0); Bytes(0)),
+    read!(Register Reg::Is(6), Rm::Any; F3; Name(654); One(U(Q)); Bytes(0); Bytes(0)),
+    read!(Memory Reg::Is(6), Rm::Any; Only66; Name(436); One(M); Bytes(64); Bytes(64); ClearsOperandSize),
+    read!(Memory Reg::Is(7), Rm::Any; Only66; Name(432); One(M); Bytes(64); Bytes(64); ClearsOperandSize),
+    read!(Register Reg::Is(6), Rm::Any; Only66; Name(652); One(U(D)); Bytes(0); Bytes(0); ClearsOperandSize),
+    read!(Memory Reg::Any, Rm::Any; NoPrefix; ByReg([541, 540, 0, 0, 682, 679, 685, 0]); One(M); Bytes(63); Bytes(63)),
+    read!(Memory Reg::Any, Rm::Any; NoPrefix; ByReg([0, 0, 557, 645, 0, 0, 0, 0]); One(M); Bytes(4); Bytes(4)),
+    read!(Memory Reg::Is(7), Rm::Any; NoPrefix; Name(431); One(M); Bytes(64); Bytes(64)),
+    read!(Register Reg::Any, Rm::ZeroIfStrict; NoPrefix; ByReg([0, 0, 0, 0, 0, 558, 565, 635]); Zero; Bytes(0); Bytes(0)),
+    refusal!(Register Reg::From(5, 7), Rm::Any; NoPrefix; Zero; BadOperand AtModRM),
+    refusal!(Either Reg::Any, Rm::Any; Always; Zero; BadOpcode AtModRM),
 ];
 
-const ROWS_0FBA: &[GroupRow; 2] = &[
-    read!(Either 0 7 Any; Always; ByReg([0, 0, 0, 0, 118, 119, 120, 121]); Two(E(Vq), I8); Of(Vq); Bytes(0)),
-    refusal!(Either 0 7 Any; Always; BadOpcode AtModRM),
+const ROWS_0FBA: &[FormRow; 2] = &[
+    read!(Either Reg::Any, Rm::Any; Always; ByReg([0, 0, 0, 0, 118, 119, 120, 121]); Two(E(Vq), I8); Of(Vq); Bytes(0)),
+    refusal!(Either Reg::Any, Rm::Any; Always; Zero; BadOpcode AtModRM),
 ];
 
-const ROWS_0FC7: &[GroupRow; 17] = &[
-    read!(Memory 1 1 Any; RexW; Name(438); One(M); Bytes(16); Bytes(16)),
-    read!(Memory 1 1 Any; Always; Name(439); One(M); Bytes(8); Bytes(8)),
-    refusal!(Either 1 1 Any; Always; BadOperand AtModRM),
-    refusal!(Either 0 7 Any; F2; BadOperand AtModRM),
-    read!(Memory 6 6 Any; With66; Name(659); One(M); Bytes(8); Bytes(8)),
-    read!(Register 0 7 Any; With66; ByReg([0, 0, 0, 0, 0, 0, 619, 620]); One(U(W)); Bytes(0); Bytes(0)),
-    refusal!(Memory 7 7 Any; With66; BadOpcode AfterAddress),
-    refusal!(Either 0 7 Any; With66; BadOpcode AtModRM),
-    read!(Memory 6 6 Any; F3; Name(670); One(M); Bytes(8); Bytes(8)),
-    read!(Register 0 7 Any; F3; ByReg([0, 0, 0, 0, 0, 0, 633, 616]); One(U(Q)); Bytes(0); Bytes(0)),
-    refusal!(Memory 7 7 Any; F3; BadOperand AfterAddress),
-    refusal!(Either 0 7 Any; F3; BadOpcode AtModRM),
-    read!(Memory 0 7 Any; RexW; ByReg([0, 0, 0, 681, 684, 687, 0, 0]); One(M); Bytes(63); Bytes(63)),
-    read!(Memory 0 7 Any; Always; ByReg([0, 0, 0, 680, 683, 686, 0, 0]); One(M); Bytes(63); Bytes(63)),
-    read!(Memory 0 7 Any; Always; ByReg([0, 0, 0, 0, 0, 0, 664, 665]); One(M); Bytes(8); Bytes(8)),
-    read!(Register 0 7 Any; Always; ByReg([0, 0, 0, 0, 0, 0, 619, 620]); One(U(V)); Bytes(0); Bytes(0)),
-    refusal!(Either 0 7 Any; Always; BadOperand AtModRM),
+const ROWS_0FC7: &[FormRow; 17] = &[
+    read!(Memory Reg::Is(1), Rm::Any; RexW; Name(438); One(M); Bytes(16); Bytes(16)),
+    read!(Memory Reg::Is(1), Rm::Any; Always; Name(439); One(M); Bytes(8); Bytes(8)),
+    refusal!(Either Reg::Is(1), Rm::Any; Always; Zero; BadOperand AtModRM),
+    refusal!(Either Reg::Any, Rm::Any; F2; Zero; BadOperand AtModRM),
+    read!(Memory Reg::Is(6), Rm::Any; With66; Name(659); One(M); Bytes(8); Bytes(8)),
+    read!(Register Reg::Any, Rm::Any; With66; ByReg([0, 0, 0, 0, 0, 0, 619, 620]); One(U(W)); Bytes(0); Bytes(0)),
+    refusal!(Memory Reg::Is(7), Rm::Any; With66; Zero; BadOpcode AfterAddress),
+    refusal!(Either Reg::Any, Rm::Any; With66; Zero; BadOpcode AtModRM),
+    read!(Memory Reg::Is(6), Rm::Any; F3; Name(670); One(M); Bytes(8); Bytes(8)),
+    read!(Register Reg::Any, Rm::Any; F3; ByReg([0, 0, 0, 0, 0, 0, 633, 616]); One(U(Q)); Bytes(0); Bytes(0)),
+    refusal!(Memory Reg::Is(7), Rm::Any; F3; Zero; BadOperand AfterAddress),
+    refusal!(Either Reg::Any, Rm::Any; F3; Zero; BadOpcode AtModRM),
+    read!(Memory Reg::Any, Rm::Any; RexW; ByReg([0, 0, 0, 681, 684, 687, 0, 0]); One(M); Bytes(63); Bytes(63)),
+    read!(Memory Reg::Any, Rm::Any; Always; ByReg([0, 0, 0, 680, 683, 686, 0, 0]); One(M); Bytes(63); Bytes(63)),
+    read!(Memory Reg::Any, Rm::Any; Always; ByReg([0, 0, 0, 0, 0, 0, 664, 665]); One(M); Bytes(8); Bytes(8)),
+    read!(Register Reg::Any, Rm::Any; Always; ByReg([0, 0, 0, 0, 0, 0, 619, 620]); One(U(V)); Bytes(0); Bytes(0)),
+    refusal!(Either Reg::Any, Rm::Any; Always; Zero; BadOperand AtModRM),
 ];
 
-const ROWS_660F78: &[GroupRow; 2] = &[
-    read!(Register 0 0 Any; Always; Name(270); Three(U(X), U8, X8); Bytes(0); Bytes(0)),
-    refusal!(Either 0 7 Any; Always; BadOperand AtModRM),
+const ROWS_660F78: &[FormRow; 2] = &[
+    read!(Register Reg::Is(0), Rm::Any; Always; Name(270); Three(U(X), U8, X8); Bytes(0); Bytes(0)),
+    refusal!(Either Reg::Any, Rm::Any; Always; Zero; BadOperand AtModRM),
 ];
 
-const ROWS_F20F78: &[GroupRow; 2] = &[
-    read!(Register 0 7 Any; Always; Name(318); Four(G(X), U(X), U8, X8); Bytes(0); Bytes(0)),
-    refusal!(Either 0 7 Any; Always; BadOperand AtModRM),
+const ROWS_F20F78: &[FormRow; 2] = &[
+    read!(Register Reg::Any, Rm::Any; Always; Name(318); Four(G(X), U(X), U8, X8); Bytes(0); Bytes(0)),
+    refusal!(Either Reg::Any, Rm::Any; Always; Zero; BadOperand AtModRM),
 ];
 
-const ROWS_F30F1E: &[GroupRow; 3] = &[
-    read!(Register 7 7 Is(2); Always; Name(451); Zero; Bytes(0); Bytes(0)),
-    read!(Register 7 7 Is(3); Always; Name(450); Zero; Bytes(0); Bytes(0)),
-    read!(Either 0 7 Any; Always; Name(76); Two(E(V), G(V)); Of(V); Of(V)),
+const ROWS_F30F1E: &[FormRow; 3] = &[
+    read!(Register Reg::Is(7), Rm::Is(2); Always; Name(451); Zero; Bytes(0); Bytes(0)),
+    read!(Register Reg::Is(7), Rm::Is(3); Always; Name(450); Zero; Bytes(0); Bytes(0)),
+    read!(Either Reg::Any, Rm::Any; Always; Name(76); Two(E(V), G(V)); Of(V); Of(V)),
 ];
 
-const ROWS_80: &[GroupRow; 1] = &[
-    read!(Either 0 7 Any; Always; ByReg([1, 2, 3, 4, 5, 6, 7, 8]); Two(E(B), I8); Bytes(1); Bytes(1)),
+const ROWS_80: &[FormRow; 1] = &[
+    read!(Either Reg::Any, Rm::Any; Always; ByReg([1, 2, 3, 4, 5, 6, 7, 8]); Two(E(B), I8); Bytes(1); Bytes(1)),
 ];
 
-const ROWS_81: &[GroupRow; 1] = &[
-    read!(Either 0 7 Any; Always; ByReg([1, 2, 3, 4, 5, 6, 7, 8]); Two(E(V), Iv); Of(V); Of(V)),
+const ROWS_81: &[FormRow; 1] = &[
+    read!(Either Reg::Any, Rm::Any; Always; ByReg([1, 2, 3, 4, 5, 6, 7, 8]); Two(E(V), IV); Of(V); Of(V)),
 ];
 
-const ROWS_83: &[GroupRow; 1] = &[
-    read!(Either 0 7 Any; Always; ByReg([1, 2, 3, 4, 5, 6, 7, 8]); Two(E(V), I8); Of(V); Of(V)),
+const ROWS_83: &[FormRow; 1] = &[
+    read!(Either Reg::Any, Rm::Any; Always; ByReg([1, 2, 3, 4, 5, 6, 7, 8]); Two(E(V), I8); Of(V); Of(V)),
 ];
 
-const ROWS_8F: &[GroupRow; 3] = &[
-    read!(Either 0 0 Any; With66; Name(10); One(E(V)); Of(V); Of(V)),
-    read!(Either 0 0 Any; Always; Name(10); One(E(V)); Bytes(8); Of(V)),
-    refusal!(Either 0 7 Any; Always; Incomplete AfterAddress),
+const ROWS_8F: &[FormRow; 3] = &[
+    read!(Either Reg::Is(0), Rm::Any; With66; Name(10); One(E(V)); Of(V); Of(V)),
+    read!(Either Reg::Is(0), Rm::Any; Always; Name(10); One(E(V)); Bytes(8); Of(V)),
+    refusal!(Either Reg::Any, Rm::Any; Always; Zero; Incomplete AfterAddress),
 ];
 
-const ROWS_C0: &[GroupRow; 1] = &[
-    read!(Either 0 7 Any; Always; ByReg([624, 625, 612, 613, 637, 638, 627, 628]); Two(E(B), I8); Bytes(1); Bytes(1)),
+const ROWS_C0: &[FormRow; 1] = &[
+    read!(Either Reg::Any, Rm::Any; Always; ByReg([624, 625, 612, 613, 637, 638, 627, 628]); Two(E(B), I8); Bytes(1); Bytes(1)),
 ];
 
-const ROWS_C1: &[GroupRow; 1] = &[
-    read!(Either 0 7 Any; Always; ByReg([624, 625, 612, 613, 637, 638, 627, 628]); Two(E(V), I8); Of(V); Of(V)),
+const ROWS_C1: &[FormRow; 1] = &[
+    read!(Either Reg::Any, Rm::Any; Always; ByReg([624, 625, 612, 613, 637, 638, 627, 628]); Two(E(V), I8); Of(V); Of(V)),
 ];
 
-const ROWS_D0: &[GroupRow; 1] = &[
-    read!(Either 0 7 Any; Always; ByReg([624, 625, 612, 613, 637, 638, 627, 628]); Two(E(B), SignedOne); Bytes(1); Bytes(1)),
+const ROWS_D0: &[FormRow; 1] = &[
+    read!(Either Reg::Any, Rm::Any; Always; ByReg([624, 625, 612, 613, 637, 638, 627, 628]); Two(E(B), SIGNED_ONE); Bytes(1); Bytes(1)),
 ];
 
-const ROWS_D1: &[GroupRow; 1] = &[
-    read!(Either 0 7 Any; Always; ByReg([624, 625, 612, 613, 637, 638, 627, 628]); Two(E(V), SignedOne); Of(V); Of(V)),
+const ROWS_D1: &[FormRow; 1] = &[
+    read!(Either Reg::Any, Rm::Any; Always; ByReg([624, 625, 612, 613, 637, 638, 627, 628]); Two(E(V), SIGNED_ONE); Of(V); Of(V)),
 ];
 
-const ROWS_D2: &[GroupRow; 1] = &[
-    read!(Either 0 7 Any; Always; ByReg([624, 625, 612, 613, 637, 638, 627, 628]); Two(E(B), CL); Bytes(1); Bytes(1)),
+const ROWS_D2: &[FormRow; 1] = &[
+    read!(Either Reg::Any, Rm::Any; Always; ByReg([624, 625, 612, 613, 637, 638, 627, 628]); Two(E(B), CL); Bytes(1); Bytes(1)),
 ];
 
-const ROWS_D3: &[GroupRow; 1] = &[
-    read!(Either 0 7 Any; Always; ByReg([624, 625, 612, 613, 637, 638, 627, 628]); Two(E(V), CL); Of(V); Of(V)),
+const ROWS_D3: &[FormRow; 1] = &[
+    read!(Either Reg::Any, Rm::Any; Always; ByReg([624, 625, 612, 613, 637, 638, 627, 628]); Two(E(V), CL); Of(V); Of(V)),
 ];
 
-const ROWS_C6: &[GroupRow; 3] = &[
-    read!(Either 0 0 Any; Always; Name(33); Two(E(B), I8); Bytes(1); Bytes(1)),
-    read!(Register 0 7 Is(0); Always; Name(674); One(I8); Bytes(1); Bytes(1)),
-    refusal!(Either 0 7 Any; Always; BadOperand AfterAddress),
+const ROWS_C6: &[FormRow; 3] = &[
+    read!(Either Reg::Is(0), Rm::Any; Always; Name(33); Two(E(B), I8); Bytes(1); Bytes(1)),
+    read!(Register Reg::Any, Rm::Is(0); Always; Name(674); One(I8); Bytes(1); Bytes(1)),
+    refusal!(Either Reg::Any, Rm::Any; Always; Zero; BadOperand AfterAddress),
 ];
 
-const ROWS_C7: &[GroupRow; 3] = &[
-    read!(Either 0 0 Any; Always; Name(33); Two(E(V), Iv); Of(V); Of(V)),
-    read!(Register 0 7 Is(0); Always; Name(675); One(Jv); Of(V); Of(V)),
-    refusal!(Either 0 7 Any; Always; BadOperand AfterAddress),
+const ROWS_C7: &[FormRow; 3] = &[
+    read!(Either Reg::Is(0), Rm::Any; Always; Name(33); Two(E(V), IV); Of(V); Of(V)),
+    read!(Register Reg::Any, Rm::Is(0); Always; Name(675); One(Jv); Of(V); Of(V)),
+    refusal!(Either Reg::Any, Rm::Any; Always; Zero; BadOperand AfterAddress),
 ];
 
-const ROWS_F6: &[GroupRow; 2] = &[
-    read!(Either 0 7 Any; Always; ByReg([31, 31, 0, 0, 0, 0, 0, 0]); Two(E(B), I8); Bytes(1); Bytes(1)),
-    read!(Either 0 7 Any; Always; ByReg([0, 0, 574, 573, 570, 12, 444, 546]); One(E(B)); Bytes(1); Bytes(1)),
+const ROWS_F6: &[FormRow; 2] = &[
+    read!(Either Reg::Any, Rm::Any; Always; ByReg([31, 31, 0, 0, 0, 0, 0, 0]); Two(E(B), I8); Bytes(1); Bytes(1)),
+    read!(Either Reg::Any, Rm::Any; Always; ByReg([0, 0, 574, 573, 570, 12, 444, 546]); One(E(B)); Bytes(1); Bytes(1)),
 ];
 
-const ROWS_F7: &[GroupRow; 2] = &[
-    read!(Either 0 7 Any; Always; ByReg([31, 31, 0, 0, 0, 0, 0, 0]); Two(E(V), Iv); Of(V); Of(V)),
-    read!(Either 0 7 Any; Always; ByReg([0, 0, 574, 573, 570, 12, 444, 546]); One(E(V)); Of(V); Of(V)),
+const ROWS_F7: &[FormRow; 2] = &[
+    read!(Either Reg::Any, Rm::Any; Always; ByReg([31, 31, 0, 0, 0, 0, 0, 0]); Two(E(V), IV); Of(V); Of(V)),
+    read!(Either Reg::Any, Rm::Any; Always; ByReg([0, 0, 574, 573, 570, 12, 444, 546]); One(E(V)); Of(V); Of(V)),
 ];
 
-const ROWS_FE: &[GroupRow; 2] = &[
-    read!(Either 0 7 Any; Always; ByReg([547, 443, 0, 0, 0, 0, 0, 0]); One(E(B)); Bytes(1); Bytes(1)),
-    refusal!(Either 0 7 Any; Always; BadOpcode AfterAddress),
+const ROWS_FE: &[FormRow; 2] = &[
+    read!(Either Reg::Any, Rm::Any; Always; ByReg([547, 443, 0, 0, 0, 0, 0, 0]); One(E(B)); Bytes(1); Bytes(1)),
+    refusal!(Either Reg::Any, Rm::Any; Always; Zero; BadOpcode AfterAddress),
 ];
 
-const ROWS_FF: &[GroupRow; 10] = &[
-    read!(Either 0 7 Any; Always; ByReg([547, 443, 0, 0, 0, 0, 0, 0]); One(E(V)); Of(V); Of(V)),
-    read!(Either 2 2 Any; Always; Name(58); One(E(Q)); Bytes(8); Bytes(8)),
-    read!(Memory 3 3 Any; Always; Name(426); One(M); Bytes(10); Bytes(10)),
-    read!(Either 4 4 Any; Always; Name(54); One(E(Q)); Bytes(8); Of(V)),
-    read!(Memory 5 5 Any; Always; Name(556); One(M); Bytes(10); Bytes(10)),
-    read!(Either 6 6 Any; With66; Name(9); One(E(V)); Bytes(2); Bytes(2)),
-    read!(Either 6 6 Any; Always; Name(9); One(E(V)); Bytes(8); Bytes(8)),
-    refusal!(Register 3 3 Any; Always; BadOperand AtModRM),
-    refusal!(Register 5 5 Any; Always; BadOperand AtModRM),
-    refusal!(Either 0 7 Any; Always; BadOpcode AfterAddress),
+const ROWS_FF: &[FormRow; 10] = &[
+    read!(Either Reg::Any, Rm::Any; Always; ByReg([547, 443, 0, 0, 0, 0, 0, 0]); One(E(V)); Of(V); Of(V)),
+    read!(Either Reg::Is(2), Rm::Any; Always; Name(58); One(E(Q)); Bytes(8); Bytes(8)),
+    read!(Memory Reg::Is(3), Rm::Any; Always; Name(426); One(M); Bytes(10); Bytes(10)),
+    read!(Either Reg::Is(4), Rm::Any; Always; Name(54); One(E(Q)); Bytes(8); Of(V)),
+    read!(Memory Reg::Is(5), Rm::Any; Always; Name(556); One(M); Bytes(10); Bytes(10)),
+    read!(Either Reg::Is(6), Rm::Any; With66; Name(9); One(E(V)); Bytes(2); Bytes(2)),
+    read!(Either Reg::Is(6), Rm::Any; Always; Name(9); One(E(V)); Bytes(8); Bytes(8)),
+    refusal!(Register Reg::Is(3), Rm::Any; Always; Zero; BadOperand AtModRM),
+    refusal!(Register Reg::Is(5), Rm::Any; Always; Zero; BadOperand AtModRM),
+    refusal!(Either Reg::Any, Rm::Any; Always; Zero; BadOpcode AfterAddress),
 ];
 
-const ROWS_D8: &[GroupRow; 2] = &[
-    read!(Memory 0 7 Any; Always; ByReg([454, 505, 467, 470, 528, 530, 475, 477]); Two(ST0, M); Bytes(4); Bytes(4)),
-    read!(Register 0 7 Any; Always; ByReg([454, 505, 467, 470, 528, 530, 475, 477]); Two(ST0, StRm); Bytes(0); Bytes(0)),
+const ROWS_D8: &[FormRow; 2] = &[
+    read!(Memory Reg::Any, Rm::Any; Always; ByReg([454, 505, 467, 470, 528, 530, 475, 477]); Two(ST0, M); Bytes(4); Bytes(4)),
+    read!(Register Reg::Any, Rm::Any; Always; ByReg([454, 505, 467, 470, 528, 530, 475, 477]); Two(ST0, StRm); Bytes(0); Bytes(0)),
 ];
 
-const ROWS_D9: &[GroupRow; 13] = &[
-    read!(Memory 0 0 Any; Always; Name(495); Two(ST0, M); Bytes(4); Bytes(4)),
-    read!(Memory 2 2 Any; Always; Name(525); Two(M, ST0); Bytes(4); Bytes(4)),
-    read!(Memory 3 3 Any; Always; Name(526); Two(M, ST0); Bytes(4); Bytes(4)),
-    read!(Memory 0 7 Any; Always; ByReg([0, 0, 0, 0, 498, 0, 512, 0]); One(M); Bytes(63); Bytes(63)),
-    read!(Memory 0 7 Any; Always; ByReg([0, 0, 0, 0, 0, 497, 0, 511]); One(M); Bytes(2); Bytes(2)),
-    read!(Register 0 7 Any; Always; ByReg([495, 539, 0, 0, 0, 0, 0, 0]); Two(ST0, StRm); Bytes(0); Bytes(0)),
-    read!(Register 2 2 Is(0); Always; Name(509); Zero; Bytes(0); Bytes(0)),
-    read!(Register 3 3 Any; Always; Name(527); Two(StRm, ST0); Bytes(0); Bytes(0)),
-    read!(Register 4 4 Any; Always; ByRm([458, 453, 0, 0, 532, 538, 0, 0]); Zero; Bytes(0); Bytes(0)),
-    read!(Register 5 5 Any; Always; ByRm([496, 500, 499, 503, 501, 502, 504, 0]); Zero; Bytes(0); Bytes(0)),
-    read!(Register 6 6 Any; Always; ByRm([452, 543, 517, 514, 542, 516, 473, 489]); Zero; Bytes(0); Bytes(0)),
-    read!(Register 7 7 Any; Always; ByRm([515, 544, 524, 523, 518, 520, 522, 472]); Zero; Bytes(0); Bytes(0)),
-    refusal!(Either 0 7 Any; Always; BadOpcode AtModRM),
+const ROWS_D9: &[FormRow; 13] = &[
+    read!(Memory Reg::Is(0), Rm::Any; Always; Name(495); Two(ST0, M); Bytes(4); Bytes(4)),
+    read!(Memory Reg::Is(2), Rm::Any; Always; Name(525); Two(M, ST0); Bytes(4); Bytes(4)),
+    read!(Memory Reg::Is(3), Rm::Any; Always; Name(526); Two(M, ST0); Bytes(4); Bytes(4)),
+    read!(Memory Reg::Any, Rm::Any; Always; ByReg([0, 0, 0, 0, 498, 0, 512, 0]); One(M); Bytes(63); Bytes(63)),
+    read!(Memory Reg::Any, Rm::Any; Always; ByReg([0, 0, 0, 0, 0, 497, 0, 511]); One(M); Bytes(2); Bytes(2)),
+    read!(Register Reg::Any, Rm::Any; Always; ByReg([495, 539, 0, 0, 0, 0, 0, 0]); Two(ST0, StRm); Bytes(0); Bytes(0)),
+    read!(Register Reg::Is(2), Rm::Is(0); Always; Name(509); Zero; Bytes(0); Bytes(0)),
+    read!(Register Reg::Is(3), Rm::Any; Always; Name(527); Two(StRm, ST0); Bytes(0); Bytes(0)),
+    read!(Register Reg::Is(4), Rm::Any; Always; ByRm([458, 453, 0, 0, 532, 538, 0, 0]); Zero; Bytes(0); Bytes(0)),
+    read!(Register Reg::Is(5), Rm::Any; Always; ByRm([496, 500, 499, 503, 501, 502, 504, 0]); Zero; Bytes(0); Bytes(0)),
+    read!(Register Reg::Is(6), Rm::Any; Always; ByRm([452, 543, 517, 514, 542, 516, 473, 489]); Zero; Bytes(0); Bytes(0)),
+    read!(Register Reg::Is(7), Rm::Any; Always; ByRm([515, 544, 524, 523, 518, 520, 522, 472]); Zero; Bytes(0); Bytes(0)),
+    refusal!(Either Reg::Any, Rm::Any; Always; Zero; BadOpcode AtModRM),
 ];
 
-const ROWS_DA: &[GroupRow; 4] = &[
-    read!(Memory 0 7 Any; Always; ByReg([482, 488, 483, 484, 493, 494, 485, 486]); Two(ST0, M); Bytes(4); Bytes(4)),
-    read!(Register 0 7 Any; Always; ByReg([459, 461, 460, 466, 0, 0, 0, 0]); Two(ST0, StRm); Bytes(0); Bytes(0)),
-    read!(Register 5 5 Is(1); Always; Name(537); Zero; Bytes(0); Bytes(0)),
-    refusal!(Either 0 7 Any; Always; BadOpcode AtModRM),
+const ROWS_DA: &[FormRow; 4] = &[
+    read!(Memory Reg::Any, Rm::Any; Always; ByReg([482, 488, 483, 484, 493, 494, 485, 486]); Two(ST0, M); Bytes(4); Bytes(4)),
+    read!(Register Reg::Any, Rm::Any; Always; ByReg([459, 461, 460, 466, 0, 0, 0, 0]); Two(ST0, StRm); Bytes(0); Bytes(0)),
+    read!(Register Reg::Is(5), Rm::Is(1); Always; Name(537); Zero; Bytes(0); Bytes(0)),
+    refusal!(Either Reg::Any, Rm::Any; Always; Zero; BadOpcode AtModRM),
 ];
 
-const ROWS_DB: &[GroupRow; 7] = &[
-    read!(Memory 0 0 Any; Always; Name(487); Two(ST0, M); Bytes(4); Bytes(4)),
-    read!(Memory 0 7 Any; Always; ByReg([0, 492, 490, 491, 0, 0, 0, 0]); Two(M, ST0); Bytes(4); Bytes(4)),
-    read!(Memory 5 5 Any; Always; Name(495); Two(ST0, M); Bytes(10); Bytes(10)),
-    read!(Memory 7 7 Any; Always; Name(526); Two(M, ST0); Bytes(10); Bytes(10)),
-    read!(Register 0 7 Any; Always; ByReg([462, 464, 463, 465, 0, 534, 468, 0]); Two(ST0, StRm); Bytes(0); Bytes(0)),
-    read!(Register 4 4 Any; Always; ByRm([479, 474, 507, 508, 521, 0, 0, 0]); Zero; Bytes(0); Bytes(0)),
-    refusal!(Either 0 7 Any; Always; BadOpcode AtModRM),
+const ROWS_DB: &[FormRow; 7] = &[
+    read!(Memory Reg::Is(0), Rm::Any; Always; Name(487); Two(ST0, M); Bytes(4); Bytes(4)),
+    read!(Memory Reg::Any, Rm::Any; Always; ByReg([0, 492, 490, 491, 0, 0, 0, 0]); Two(M, ST0); Bytes(4); Bytes(4)),
+    read!(Memory Reg::Is(5), Rm::Any; Always; Name(495); Two(ST0, M); Bytes(10); Bytes(10)),
+    read!(Memory Reg::Is(7), Rm::Any; Always; Name(526); Two(M, ST0); Bytes(10); Bytes(10)),
+    read!(Register Reg::Any, Rm::Any; Always; ByReg([462, 464, 463, 465, 0, 534, 468, 0]); Two(ST0, StRm); Bytes(0); Bytes(0)),
+    read!(Register Reg::Is(4), Rm::Any; Always; ByRm([479, 474, 507, 508, 521, 0, 0, 0]); Zero; Bytes(0); Bytes(0)),
+    refusal!(Either Reg::Any, Rm::Any; Always; Zero; BadOpcode AtModRM),
 ];
 
-const ROWS_DC: &[GroupRow; 3] = &[
-    read!(Memory 0 7 Any; Always; ByReg([454, 505, 467, 470, 528, 530, 475, 477]); Two(ST0, M); Bytes(8); Bytes(8)),
-    read!(Register 0 7 Any; Always; ByReg([0, 0, 467, 470, 0, 0, 0, 0]); Two(ST0, StRm); Bytes(0); Bytes(0)),
-    read!(Register 0 7 Any; Always; ByReg([454, 505, 0, 0, 530, 528, 477, 475]); Two(StRm, ST0); Bytes(0); Bytes(0)),
+const ROWS_DC: &[FormRow; 3] = &[
+    read!(Memory Reg::Any, Rm::Any; Always; ByReg([454, 505, 467, 470, 528, 530, 475, 477]); Two(ST0, M); Bytes(8); Bytes(8)),
+    read!(Register Reg::Any, Rm::Any; Always; ByReg([0, 0, 467, 470, 0, 0, 0, 0]); Two(ST0, StRm); Bytes(0); Bytes(0)),
+    read!(Register Reg::Any, Rm::Any; Always; ByReg([454, 505, 0, 0, 530, 528, 477, 475]); Two(StRm, ST0); Bytes(0); Bytes(0)),
 ];
 
-const ROWS_DD: &[GroupRow; 8] = &[
-    read!(Memory 0 0 Any; Always; Name(495); Two(ST0, M); Bytes(8); Bytes(8)),
-    read!(Memory 0 7 Any; Always; ByReg([0, 492, 525, 526, 0, 0, 0, 0]); Two(M, ST0); Bytes(8); Bytes(8)),
-    read!(Memory 0 7 Any; Always; ByReg([0, 0, 0, 0, 519, 0, 510, 0]); One(M); Bytes(63); Bytes(63)),
-    read!(Memory 7 7 Any; Always; Name(513); One(M); Bytes(2); Bytes(2)),
-    read!(Register 0 0 Any; Always; Name(480); One(StRm); Bytes(0); Bytes(0)),
-    read!(Register 0 7 Any; Always; ByReg([0, 539, 0, 0, 533, 536, 0, 0]); Two(ST0, StRm); Bytes(0); Bytes(0)),
-    read!(Register 0 7 Any; Always; ByReg([0, 0, 525, 526, 0, 0, 0, 0]); Two(StRm, ST0); Bytes(0); Bytes(0)),
-    refusal!(Either 0 7 Any; Always; BadOpcode AtModRM),
+const ROWS_DD: &[FormRow; 8] = &[
+    read!(Memory Reg::Is(0), Rm::Any; Always; Name(495); Two(ST0, M); Bytes(8); Bytes(8)),
+    read!(Memory Reg::Any, Rm::Any; Always; ByReg([0, 492, 525, 526, 0, 0, 0, 0]); Two(M, ST0); Bytes(8); Bytes(8)),
+    read!(Memory Reg::Any, Rm::Any; Always; ByReg([0, 0, 0, 0, 519, 0, 510, 0]); One(M); Bytes(63); Bytes(63)),
+    read!(Memory Reg::Is(7), Rm::Any; Always; Name(513); One(M); Bytes(2); Bytes(2)),
+    read!(Register Reg::Is(0), Rm::Any; Always; Name(480); One(StRm); Bytes(0); Bytes(0)),
+    read!(Register Reg::Any, Rm::Any; Always; ByReg([0, 539, 0, 0, 533, 536, 0, 0]); Two(ST0, StRm); Bytes(0); Bytes(0)),
+    read!(Register Reg::Any, Rm::Any; Always; ByReg([0, 0, 525, 526, 0, 0, 0, 0]); Two(StRm, ST0); Bytes(0); Bytes(0)),
+    refusal!(Either Reg::Any, Rm::Any; Always; Zero; BadOpcode AtModRM),
 ];
 
-const ROWS_DE: &[GroupRow; 5] = &[
-    read!(Memory 0 7 Any; Always; ByReg([482, 488, 483, 484, 493, 494, 485, 486]); Two(ST0, M); Bytes(2); Bytes(2)),
-    read!(Register 2 2 Any; Always; Name(470); Two(ST0, StRm); Bytes(0); Bytes(0)),
-    read!(Register 3 3 Is(1); Always; Name(471); Zero; Bytes(0); Bytes(0)),
-    read!(Register 0 7 Any; Always; ByReg([455, 506, 0, 0, 531, 529, 478, 476]); Two(StRm, ST0); Bytes(0); Bytes(0)),
-    refusal!(Either 0 7 Any; Always; BadOperand AtModRM),
+const ROWS_DE: &[FormRow; 5] = &[
+    read!(Memory Reg::Any, Rm::Any; Always; ByReg([482, 488, 483, 484, 493, 494, 485, 486]); Two(ST0, M); Bytes(2); Bytes(2)),
+    read!(Register Reg::Is(2), Rm::Any; Always; Name(470); Two(ST0, StRm); Bytes(0); Bytes(0)),
+    read!(Register Reg::Is(3), Rm::Is(1); Always; Name(471); Zero; Bytes(0); Bytes(0)),
+    read!(Register Reg::Any, Rm::Any; Always; ByReg([455, 506, 0, 0, 531, 529, 478, 476]); Two(StRm, ST0); Bytes(0); Bytes(0)),
+    refusal!(Either Reg::Any, Rm::Any; Always; Zero; BadOperand AtModRM),
 ];
 
-const ROWS_DF: &[GroupRow; 11] = &[
-    read!(Memory 0 0 Any; Always; Name(487); Two(ST0, M); Bytes(2); Bytes(2)),
-    read!(Memory 0 7 Any; Always; ByReg([0, 492, 490, 491, 0, 0, 0, 0]); Two(M, ST0); Bytes(2); Bytes(2)),
-    read!(Memory 4 4 Any; Always; Name(456); Two(ST0, M); Bytes(10); Bytes(10)),
-    read!(Memory 5 5 Any; Always; Name(487); Two(ST0, M); Bytes(8); Bytes(8)),
-    read!(Memory 6 6 Any; Always; Name(457); Two(M, ST0); Bytes(10); Bytes(10)),
-    read!(Memory 7 7 Any; Always; Name(491); Two(M, ST0); Bytes(8); Bytes(8)),
-    read!(Register 0 0 Any; Always; Name(481); One(StRm); Bytes(0); Bytes(0)),
-    read!(Register 0 7 Any; Always; ByReg([0, 539, 0, 0, 0, 535, 469, 0]); Two(ST0, StRm); Bytes(0); Bytes(0)),
-    read!(Register 0 7 Any; Always; ByReg([0, 0, 526, 526, 0, 0, 0, 0]); Two(StRm, ST0); Bytes(0); Bytes(0)),
-    read!(Register 4 4 Is(0); Always; Name(513); One(U(W)); Bytes(0); Bytes(0)),
-    refusal!(Either 0 7 Any; Always; BadOpcode AtModRM),
+const ROWS_DF: &[FormRow; 11] = &[
+    read!(Memory Reg::Is(0), Rm::Any; Always; Name(487); Two(ST0, M); Bytes(2); Bytes(2)),
+    read!(Memory Reg::Any, Rm::Any; Always; ByReg([0, 492, 490, 491, 0, 0, 0, 0]); Two(M, ST0); Bytes(2); Bytes(2)),
+    read!(Memory Reg::Is(4), Rm::Any; Always; Name(456); Two(ST0, M); Bytes(10); Bytes(10)),
+    read!(Memory Reg::Is(5), Rm::Any; Always; Name(487); Two(ST0, M); Bytes(8); Bytes(8)),
+    read!(Memory Reg::Is(6), Rm::Any; Always; Name(457); Two(M, ST0); Bytes(10); Bytes(10)),
+    read!(Memory Reg::Is(7), Rm::Any; Always; Name(491); Two(M, ST0); Bytes(8); Bytes(8)),
+    read!(Register Reg::Is(0), Rm::Any; Always; Name(481); One(StRm); Bytes(0); Bytes(0)),
+    read!(Register Reg::Any, Rm::Any; Always; ByReg([0, 539, 0, 0, 0, 535, 469, 0]); Two(ST0, StRm); Bytes(0); Bytes(0)),
+    read!(Register Reg::Any, Rm::Any; Always; ByReg([0, 0, 526, 526, 0, 0, 0, 0]); Two(StRm, ST0); Bytes(0); Bytes(0)),
+    read!(Register Reg::Is(4), Rm::Is(0); Always; Name(513); One(U(W)); Bytes(0); Bytes(0)),
+    refusal!(Either Reg::Any, Rm::Any; Always; Zero; BadOpcode AtModRM),
 ];
 
 /// The line of each reg, for the groups in the order of `RegGroup`.
@@ -573,11 +581,13 @@ pub(crate) const REG_LINES: &[[RegLine; 8]; 15] = &[
 ];
 
 /// The rows of a form that has none.
-const LEFT_OUT: &[GroupRow; 1] = &[refusal!(Either 0 7 Any; Always; Incomplete AtModRM)];
+const LEFT_OUT: &[FormRow; 1] = &[
+    refusal!(Either Reg::Any, Rm::Any; Always; Zero; Incomplete AtModRM),
+];
 
 /// The rows of a form.
 #[tactic(auto, unfolding(crate::specs::Rows::group_rows))]
-pub(crate) fn group_rows(form: Form) -> &'static [GroupRow]
+pub(crate) fn group_rows(form: Form) -> &'static [FormRow]
     ensures { result.now ≡ group_rows form }
 {
     match form {

@@ -7,7 +7,7 @@ use Rattle.x86_regs.specs.declared.RegisterClass.TheVariants as class
 use Rattle.x86_fields.specs.Steps.{Step, Outcome, outcome, then_from, pure, ◌>>=◌}
 use Rattle.x86_operands.specs.PlanSteps.{read_plan, read_memory, filled_step, operands_step, operand_step, reading_from, known_operand, memory_or}
 use Rattle.x86_operands.specs.Plans.{list_of, reads, rm_number}
-use Rattle.x86_operands.specs.Shape.{shape}
+use Rattle.x86_operands.specs.Operands.{shape}
 use Rattle.x86_operands.specs.Encodings.{index_of_position, last_encoding, somewhere, reg_encoding, rm_encoding, encodings_in, plan_of, size_bytes, size_at, is_order, has_modrm, has_register, order_fits, allows}
 use Rattle.x86_operands.specs.OperandList.{encoded_read, put_encoded, put_in, placed, reg_pair, fixed_pair, reading_with, sized, last_read, operands_read}
 use Rattle.x86_operands.proofs.OrderLemmas.{Named, no_named, named_of, accepted, no_memory, no_modrm}

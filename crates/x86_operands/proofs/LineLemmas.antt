@@ -1,63 +1,63 @@
 -- The line of each form in the table of operand encodings.
-use Rattle.std.proofs.Common.{◌≡◌, ◌<◌, ◌≤◌, ◌+◌, ◌-◌, ℕ, Bool, true, false, not, if◌then◌else◌, List, length, drop, rules, get_or, refl, sym, ap, subst, ◌∙◌, arith, length-drop}
+use Rattle.std.proofs.Common.{◌≡◌, ◌<◌, ◌≤◌, ◌+◌, ◌-◌, ℕ, Bool, true, false, not, if◌then◌else◌, IsTrue, List, length, drop, rules, get_or, refl, sym, ap, subst, ◌∙◌, arith, length-drop}
 use Rattle.std.specs.List.{list_all}
 use Rattle.std.proofs.Math.Nat.{lt_of_not-le}
 use Rattle.std.proofs.lemmas.Bool.{ltb-true}
 use Rattle.std.proofs.lemmas.List.{get_or-drop}
 use Rattle.std.proofs.lemmas.List.Elements.{All-get_or}
 use Rattle.std.proofs.lemmas.List.Sums.{AllPass-from_list_all}
-use Rattle.x86_operands.specs.Vocabulary.{Form, Prefixes, AfterOpcode, FormEncoding, Size, Plan, Width, is_memory}
+use Rattle.x86_operands.specs.Vocabulary.{Form, Prefixes, AfterOpcode, FormEncoding, Width, is_memory}
 use Rattle.x86_forms.specs.declared.Form.TheVariants as form
 use Rattle.x86_forms.specs.Ordinals.{first_ordinal_of, ordinal_of}
 use Rattle.x86_forms.specs.Words.{IsForm, carried}
 use Rattle.x86_forms.proofs.FormLemmas.{up_to_seven}
-use denote.Enum.Bare.{sameb, same_true}
 use Rattle.x86_operands.specs.declared.encodings.AfterOpcode.TheVariants as after_opcode
-use Rattle.x86_operands.specs.contracts.encodings.Size.{the_type}
 use Rattle.x86_operands.specs.declared.lines.TheConstants.{ENCODINGS}
-use Rattle.x86_operands.specs.FormEncodings.{Belongs, Describes, HasSeparatePlan}
+use Rattle.x86_operands.specs.Forms.{Belongs, Describes, row_with, form_plan, modrm_use}
 use Rattle.x86_operands.specs.Encodings.{encodings_in, is_described, is_sound, last_encoding, plan_of, reg_encoding, restricted_plan, rm_encoding, size_at, size_bytes, use_of}
 use Rattle.x86_operands.specs.Plans.{reads}
-use Rattle.x86_operands.specs.Forms.{form_plan, modrm_use, separate_plan}
+use Rattle.x86_operands.specs.Rows.{form_rows}
 
 pub record IsLine (e : FormEncoding) (f : Form) : Type 0 where
   pub describes : Describes e f
-  pub separate : HasSeparatePlan e f
   pub group : Belongs e.after_opcode f
   pub sound : is_sound e ≡ true
   pub usage : modrm_use f ≡ use_of e.after_opcode
 
 -- ---- the plan of a form, by its line
 
--- the bytes of a line's sizes, with no test of ModRM where both are the same
-abbrev bytes_by : Bool → Size → Size → ℕ → Prefixes → ℕ
-bytes_by memory x y o p = if sameb the_type x y then size_bytes x o p else (if memory then size_bytes x o p else size_bytes y o p)
+-- the line of a form's first number
+abbrev line_of : Form → FormEncoding → FormEncoding
+line_of f d = get_or ENCODINGS.now (first_ordinal_of f + 1) d
 
-bytes_are : (memory : Bool) (x y : Size) (o : ℕ) (p : Prefixes) → size_bytes (if memory then x else y) o p ≡ bytes_by memory x y o p
-bytes_are memory x y o p = grind (arith, same_true the_type tt)
+-- in the memory form, or in the register form, a line says what the form's rows say
+abbrev SaysAt : Bool → FormEncoding → Form → Type 0
+SaysAt memory e f = IsTrue (is_described e.after_opcode) → (o m : ℕ) (p : Prefixes) → is_memory m ≡ memory → plan_of e (carried f) o p m ≡ form_plan (row_with o f) p m
 
-abbrev plan_with : FormEncoding → Form → ℕ → Prefixes → ℕ → ℕ → Plan
-plan_with e f o p m size = restricted_plan e.after_opcode m (reads o (encodings_in e.order (reg_encoding e.after_opcode e.reg (carried f) p) (rm_encoding e.after_opcode e.rm p) (last_encoding e.last p)) size)
+says_in_memory : (f : Form) (d : FormEncoding) → SaysAt true (line_of f d) f
+unfolding form_rows form_plan
+says_in_memory (form.Zv_R n) d is o m p e = rw e refl
+says_in_memory f d is o m p e = first_of (cc (e), grind (arith, e))
 
--- as the line describes it, or else the separate plan: at each form of the table this computes to the form's plan
-abbrev plan_by : FormEncoding → Form → ℕ → Prefixes → ℕ → Plan
-plan_by e f o p m = if is_described e.after_opcode then plan_with e f o p m (bytes_by (is_memory m) e.in_memory e.in_register o p) else separate_plan f o p m
+says_in_register : (f : Form) (d : FormEncoding) → SaysAt false (line_of f d) f
+unfolding form_rows form_plan
+says_in_register (form.Zv_R n) d is o m p e = rw e refl
+says_in_register f d is o m p e = first_of (cc (e), grind (arith, e))
 
-line_by : (e : FormEncoding) (f : Form) → ((o m : ℕ) (p : Prefixes) → plan_by e f o p m ≡ form_plan f o p m) → Belongs e.after_opcode f → is_sound e ≡ true → modrm_use f ≡ use_of e.after_opcode → IsLine e f
-line_by e f same group sound usage = record {
-  describes = λ is o m p. ap (plan_with e f o p m) (bytes_are (is_memory m) e.in_memory e.in_register o p) ∙ rw is at (same o m p);
-  separate = λ is o m p. sym (rw is at (same o m p));
-  group = group;
-  sound = sound;
-  usage = usage;
-}
+describes : (f : Form) (d : FormEncoding) → Describes (line_of f d) f
+describes f d is o m p = by (is_memory m) refl
+  where
+    by : (memory : Bool) → is_memory m ≡ memory → plan_of (line_of f d) (carried f) o p m ≡ form_plan (row_with o f) p m
+    by true e = says_in_memory f d is o m p e
+    by false e = says_in_register f d is o m p e
 
 abbrev pub IsLineAt : ℕ → Form → Type 0
 IsLineAt n f = (d : FormEncoding) → IsLine (get_or ENCODINGS.now n d) f
 
 pub first_line : (f : Form) → IsLineAt (first_ordinal_of f + 1) f
-first_line (form.Zv_R n) d = line_by _ _ (λ o m p. refl) (search rules) refl refl
-first_line _ d = line_by _ _ (λ o m p. refl) (search rules) refl refl
+unfolding form_rows modrm_use
+first_line (form.Zv_R n) d = record { describes = describes (form.Zv_R n) d; group = search rules; sound = refl; usage = refl }
+first_line f d = record { describes = describes f d; group = search rules; sound = refl; usage = refl }
 
 -- the line is in the table, and is that of the form's first number
 abbrev HasLine : Form → Type 0

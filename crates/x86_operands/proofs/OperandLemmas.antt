@@ -1,9 +1,9 @@
 -- What the operand encodings of a record take, and where they end: their immediates, one after another.
-use Rattle.std.proofs.Common.{◌≡◌, ℕ, List, [], ◌∷◌, ◌++◌, length, map, Option, Some, None, Ok, refl, sym, ap, subst, ◌∙◌}
+use Rattle.std.proofs.Common.{◌≡◌, ℕ, List, [], ◌∷◌, ◌++◌, length, map, Option, Some, None, Ok, refl, sym, ap, subst, ◌∙◌, suc, Bool, ℤ, pos}
 use Rattle.std.proofs.lemmas.List.{append-nil, nil_from_length}
-use Rattle.std.specs.Int.{byte_len, from_le_bytes}
-use Rattle.std.specs.Option.{option_map_or}
-use Rattle.x86_operands.specs.Vocabulary.{Prefixes, Raw, Slot, Operand, OperandEncoding}
+use Rattle.std.specs.Int.{byte_len, from_le_bytes, w32}
+use Rattle.std.specs.Option.{option_map_or, option_map}
+use Rattle.x86_operands.specs.Vocabulary.{Prefixes, Raw, Slot, Operand, OperandEncoding, RegSpec}
 use Rattle.x86_fields.specs.Steps.{Step, pure, ◌>>=◌, number_step}
 use Rattle.x86_fields.specs.Pieces.{EndsBetween}
 use Rattle.x86_fields.proofs.StepLemmas.{Takes, takes_pure, takes_bind}
@@ -12,6 +12,12 @@ use Rattle.x86_fields.proofs.PieceLemmas.{IsNumber, ends_number, takes_number, t
 use Rattle.x86_operands.specs.PlanSteps.{Immediate, immediate_read, known_operand, number_or, operand_step, operands_step}
 use Rattle.x86_operands.specs.Asks.{immediate_width}
 use Rattle.x86_operands.specs.Pieces.{operand_from, SpellsOperands}
+use Rattle.std.specs.Prelude.{FitsSigned}
+use Rattle.std.proofs.Math.Dec.{eqb-suc-zero}
+use Rattle.std.proofs.lemmas.Int.{to_z-of_z}
+use Rattle.x86_fields.specs.Address.{base_of, index_of, scale_by}
+use Rattle.x86_fields.specs.Linear.{linear, raw_form, value_at}
+use Rattle.x86_operands.specs.Operands.{shape_by, shape, operand_form, operand_address}
 
 module _ (p : Prefixes) (m : ℕ) (memory : Option Raw) where
   -- ---- one operand
@@ -92,3 +98,20 @@ module _ (p : Prefixes) (m : ℕ) (memory : Option Raw) where
       (halts_piece (encoding s) (λ x. with_others rest x >>= f) (immediate_width s) (widths rest ++ ws) q (λ l. operand_from s p m memory l) (reads_operand s).0 (reads_operand s).1
       (λ x l b. halts_same (operands_step rest p m memory >>= λ others. f (x ∷ others)) (with_others rest x >>= f) l (λ t. bind_assoc (operands_step rest p m memory) (λ others. pure (x ∷ others)) f t)
       (halts_operands rest (λ others. f (x ∷ others)) ws l (λ others e c. each (x ∷ others) e c) b)) k)
+
+-- ---- the shape of raw fields
+
+shape_form : (short : Bool) (b i : Option RegSpec) (s : ℕ) (d : ℤ) → FitsSigned w32 d → operand_form short (shape_by b i s d).1 ≡ Some (linear short b i s d)
+shape_form short None None s d fits = ap (λ e. Some (linear short None None s e)) (to_z-of_z w32 d fits)
+shape_form short (Some b) None s (pos (suc n)) fits = rw (eqb-suc-zero n) refl
+shape_form short None (Some i) s (pos (suc n)) fits = rw (eqb-suc-zero n) refl
+shape_form short (Some b) (Some i) s (pos (suc n)) fits = rw (eqb-suc-zero n) refl
+shape_form short b i s d fits = refl
+
+pub shape_has_form : (raw : Raw) → FitsSigned w32 raw.disp → operand_form raw.address_size (shape raw).1 ≡ Some (raw_form raw)
+unfolding shape
+shape_has_form raw fits = shape_form raw.address_size (base_of raw) (index_of raw) (scale_by raw.sib) raw.disp fits
+
+-- so its address is that of the raw fields
+pub shape_has_address : (raw : Raw) (regs : List ℕ) (next : ℕ) → FitsSigned w32 raw.disp → operand_address raw.address_size (shape raw).1 regs next ≡ Some (value_at (raw_form raw) regs next)
+shape_has_address raw regs next fits = ap (option_map (λ f. value_at f regs next)) (shape_has_form raw fits)

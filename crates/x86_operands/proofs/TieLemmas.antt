@@ -4,12 +4,11 @@ use Rattle.x86_operands.specs.Vocabulary.{Prefixes, Raw, Slot, Operand, OperandE
 use Rattle.x86_arch.specs.Reader.{State}
 use Rattle.x86_operands.specs.declared.operands.Slot.TheVariants as slots
 use Rattle.x86_operands.specs.declared.operands.Operand.TheVariants as operands
-use Rattle.x86_operands.specs.Shape.{shape}
+use Rattle.x86_operands.specs.Operands.{shape}
 use Rattle.x86_operands.specs.Plans.{RowRecord, list_of}
 use Rattle.x86_operands.specs.PlanSteps.{pair_at, four_of, record_step}
-use Rattle.x86_operands.specs.Ties.{is_decoded, suits, slot_read, operand_read, AreTied, is_modrm_encoding, names_modrm, encodings_of, HasShapeAt}
+use Rattle.x86_operands.specs.Pieces.{is_decoded, suits, slot_read, operand_read, AreTied, is_modrm_encoding, names_modrm, encodings_of, HasShapeAt, operand_from, SpellsOperands, SpellsMemory, SpellsRow}
 use Rattle.x86_operands.specs.Asks.{modrm_of}
-use Rattle.x86_operands.specs.Pieces.{operand_from, SpellsOperands, SpellsMemory, SpellsRow}
 use Rattle.x86_operands.proofs.RowLemmas.{row_read}
 
 -- ---- one operand

@@ -7,8 +7,7 @@ use Rattle.x86_fields.specs.declared.errors.DecodeError.TheVariants.{ExhaustedIn
 use Rattle.x86_fields.specs.Steps.{Step, pure, refuse, ◌>>=◌, next_byte}
 use Rattle.x86_fields.proofs.StepLemmas.{Takes, takes_pure, takes_bind, takes_byte}
 use Rattle.x86_fields.proofs.EndLemmas.{EndsWell, IsEmpty, IsByte, ends_byte, ends_pure, ends_refuse, ends_then, Halts, halts_bind, halts_refused}
-use Rattle.x86_operands.specs.Suffix.{suffix_opcode}
-use Rattle.x86_operands.specs.PlanSteps.{refuse_at, read_opcode, same_moment, error_of}
+use Rattle.x86_operands.specs.PlanSteps.{suffix_opcode, refuse_at, read_opcode, same_moment, error_of}
 use Rattle.x86_operands.specs.Pieces.{suffix_width, opcode_by}
 
 pub fault_error : (f : Fault) → error_of f ≢ ExhaustedInput

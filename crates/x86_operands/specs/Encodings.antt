@@ -1,16 +1,38 @@
--- What a line of the operand encodings means.
-use Rattle.std.specs.Prelude.{ℕ, Bool, true, false, ◌==◌, if◌then◌else◌, not, pos, ◌&&◌}
+-- What a line of the operand encodings means. In a form that has sizes for named opcodes alone, any other opcode has size 0.
+use Rattle.std.specs.Prelude.{ℕ, Bool, true, false, ◌==◌, if◌then◌else◌, not, pos, ◌&&◌, [], ◌∷◌}
 use Rattle.x86_regs.specs.declared.RegisterClass.TheVariants as class
-use Rattle.x86_operands.specs.Vocabulary.{width_of, reg_spec, Prefixes, Width, OperandEncoding, OperandEncodings, Zero, One, Two, Three, Plan, Position, First, Second, Third, Nowhere, Order, AfterOpcode, Last, Size, FormEncoding, ModrmUse, class_of, v_class, dq_class, is_memory, operand_size}
+use Rattle.x86_opcodes.specs.Kinds.{is_among}
+use Rattle.x86_opcodes.specs.Names.{CALL, CMPSD, CMPSS, ROUNDSS, ROUNDSD, MOVDDUP, MOVNTSS, MOVNTPS, MOVNTPD, MOVNTDQ, PEXTRB, PEXTRW, EXTRACTPS, PINSRB, INSERTPS, PMOVSXBQ, PMOVZXBQ, PMOVSXBD, PMOVZXBD, PMOVSXWQ, PMOVZXWQ, UCOMISS, COMISS, CVTSS2SD, MOVLPD, MOVHPD, PUNPCKLBW, PUNPCKLWD, PUNPCKLDQ, RETURN, RETF, PUSHF, POPF, LEAVE, XLAT}
+use Rattle.x86_operands.specs.Vocabulary.{width_of, reg_spec, RegisterClass, Prefixes, AtModRM, AfterAddress, Width, OperandEncoding, OperandEncodings, Zero, One, Two, Three, Plan, Position, First, Second, Third, Nowhere, Order, AfterOpcode, Last, Size, FormEncoding, ModrmUse, class_of, v_class, dq_class, is_memory, has_w, operand_size}
 use Rattle.x86_fields.specs.declared.sizes.Width.TheVariants as width
 use Rattle.x86_operands.specs.declared.plans.OperandEncoding.TheVariants as encoding
 use Rattle.x86_operands.specs.declared.plans.RegisterSlot.TheVariants as slot
 use Rattle.x86_operands.specs.declared.encodings.AfterOpcode.TheVariants as after_opcode
 use Rattle.x86_operands.specs.declared.encodings.Last.TheVariants as last
 use Rattle.x86_operands.specs.declared.encodings.Size.TheVariants as size
-use Rattle.x86_operands.specs.Plans.{reads, memory_only, register_only, register_at, accumulator_of, immediate_of}
-use Rattle.x86_operands.specs.FormSizes.{whole_immediate, push_immediate, call_size, form_by_opcode, lacks_memory, named_size, v_size}
+use Rattle.x86_operands.specs.Plans.{reads, refused, register_at, accumulator_of}
 use Rattle.x86_operands.specs.declared.plans.ModrmUse.TheVariants as use_as
+
+-- an immediate by the class v: of a word, of a doubleword or of a quadword
+abbrev pub immediate_by : OperandEncoding → RegisterClass → OperandEncoding
+immediate_by quad class.W = encoding.I16
+immediate_by quad class.Q = quad
+immediate_by quad c = encoding.I32
+
+-- a size that the operation alone decides, and 0 for the others
+abbrev pub named_size : Size → ℕ → ℕ
+named_size size.Bare o = if is_among (RETURN ∷ PUSHF ∷ POPF ∷ LEAVE ∷ []) o then 8 else (if o == RETF then 10 else (if o == XLAT then 1 else 0))
+named_size size.Return o = if o == RETURN then 8 else (if o == RETF then 10 else 0)
+named_size size.Duplicate o = if o == MOVDDUP then 8 else 16
+named_size size.Stream o = if o == MOVNTSS then 4 else (if is_among (MOVNTPS ∷ MOVNTPD ∷ MOVNTDQ ∷ []) o then 16 else 8)
+named_size size.Scalar o = if is_among (CMPSS ∷ ROUNDSS ∷ []) o then 4 else (if is_among (CMPSD ∷ ROUNDSD ∷ []) o then 8 else 16)
+named_size size.Extract o = if o == PEXTRB then 1 else (if o == PEXTRW then 2 else (if o == EXTRACTPS then 4 else 0))
+named_size size.Insert o = if o == PINSRB then 1 else (if o == INSERTPS then 4 else 0)
+named_size size.Unpack o = if is_among (PUNPCKLBW ∷ PUNPCKLWD ∷ PUNPCKLDQ ∷ []) o then 4 else 8
+named_size size.Extend o =
+    if is_among (PMOVSXBQ ∷ PMOVZXBQ ∷ []) o then 2
+    else (if is_among (PMOVSXBD ∷ PMOVZXBD ∷ PMOVSXWQ ∷ PMOVZXWQ ∷ UCOMISS ∷ COMISS ∷ CVTSS2SD ∷ []) o then 4 else 8)
+named_size s o = 0
 
 -- the bytes of a size
 abbrev pub size_bytes : Size → ℕ → Prefixes → ℕ
@@ -20,15 +42,11 @@ size_bytes size.Two o p = 2
 size_bytes size.Four o p = 4
 size_bytes size.Eight o p = 8
 size_bytes size.Sixteen o p = 16
-size_bytes size.V o p = v_size p
+size_bytes size.V o p = width_of (v_class p)
 size_bytes size.Dq o p = width_of (dq_class p)
 size_bytes size.Push o p = if operand_size p then 2 else 8
-size_bytes size.Call o p = call_size o
+size_bytes size.Call o p = if o == CALL then 8 else 0
 size_bytes s o p = named_size s o
-
--- the register CL, as a third operand
-abbrev pub cl_third : OperandEncoding
-cl_third = encoding.Fixed slot.Third (reg_spec 1 class.B)
 
 abbrev pub last_encoding : Last → Prefixes → OperandEncoding
 last_encoding last.Absent p = encoding.ConstantU8 0
@@ -36,14 +54,14 @@ last_encoding last.I8 p = encoding.I8
 last_encoding last.U8 p = encoding.U8
 last_encoding last.U16 p = encoding.U16
 last_encoding last.I32 p = encoding.I32
-last_encoding last.Iv p = immediate_of (v_class p)
-last_encoding last.Ivq p = whole_immediate (v_class p)
-last_encoding last.Ip p = push_immediate p
+last_encoding last.Iv p = immediate_by encoding.I64 (v_class p)
+last_encoding last.Ivq p = immediate_by encoding.I64Whole (v_class p)
+last_encoding last.Ip p = if operand_size p && not (has_w p) then encoding.I16 else encoding.I32
 last_encoding last.SignedOne p = encoding.ConstantI8 (pos 1)
 last_encoding last.UnsignedOne p = encoding.ConstantU8 1
 last_encoding last.Three p = encoding.ConstantU8 3
 last_encoding last.Cl p = encoding.Fixed slot.Reg (reg_spec 1 class.B)
-last_encoding last.ClThird p = cl_third
+last_encoding last.ClThird p = encoding.Fixed slot.Third (reg_spec 1 class.B)
 
 abbrev pub reg_encoding : AfterOpcode → Width → ℕ → Prefixes → OperandEncoding
 reg_encoding after_opcode.Opcode w n p = encoding.Fixed slot.Reg (register_at n (class_of w p) p)
@@ -80,10 +98,14 @@ encodings_in o reg rm last =
 abbrev pub size_at : FormEncoding → ℕ → Size
 size_at e m = if is_memory m then e.in_memory else e.in_register
 
+-- a load of half an xmm register, at a ModRM byte of the register form
+abbrev pub lacks_memory : ℕ → ℕ → Bool
+lacks_memory o m = is_among (MOVLPD ∷ MOVHPD ∷ []) o && not (is_memory m)
+
 abbrev pub restricted_plan : AfterOpcode → ℕ → Plan → Plan
-restricted_plan after_opcode.Memory m plan = memory_only m plan
-restricted_plan after_opcode.Registers m plan = register_only m plan
-restricted_plan after_opcode.FormByOpcode m plan = form_by_opcode m plan
+restricted_plan after_opcode.Memory m plan = refused (not (is_memory m)) AtModRM plan
+restricted_plan after_opcode.Registers m plan = refused (is_memory m) AfterAddress plan
+restricted_plan after_opcode.FormByOpcode m plan = refused (lacks_memory plan.opcode m) AtModRM plan
 restricted_plan b m plan = plan
 
 -- the plan of a form with this encoding, whose opcode byte carries n

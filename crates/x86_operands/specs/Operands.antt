@@ -1,12 +1,47 @@
 -- What is known of an operand and a slot by themselves.
-use Rattle.std.specs.Prelude.{ℕ, Bool, true, false, ◌||◌, ◌==◌, if◌then◌else◌, Option, Some, None, is_some}
+use Rattle.std.specs.Prelude.{ℕ, Bool, true, false, ◌||◌, ◌==◌, if◌then◌else◌, Option, Some, None, is_some, ℤ, ◌%◌, pos, List}
 use Rattle.x86_regs.specs.Register.{class}
-use Rattle.x86_operands.specs.Vocabulary.{width_of, Slot, Operand}
+use Rattle.x86_operands.specs.Vocabulary.{width_of, Slot, Operand, RegSpec, Raw, is_zero}
 use Rattle.x86_operands.specs.declared.operands.MemoryAccessSize.{MemoryAccessSize}
 use Rattle.x86_operands.specs.declared.operands.Slot.TheVariants as slots
 use Rattle.x86_operands.specs.declared.operands.Operand.TheVariants as operands
 use Rattle.x86_fields.specs.MemorySizes.{undecided_size}
-use Rattle.x86_operands.specs.Linear.{operand_form}
+use Rattle.std.specs.Int.{w32, cast_signed, cast_unsigned}
+use Rattle.std.specs.Option.{option_map}
+use Rattle.x86_fields.specs.Linear.{Linear, linear, modulus_by, value_at}
+use Rattle.x86_fields.specs.Address.{base_of, index_of, scale_by}
+
+-- ---- the shape of raw fields: the slot and the operand of the parts that are there
+
+-- The operand has the parts that are present. A displacement of 0 is not named.
+abbrev pub shape_by : Option RegSpec → Option RegSpec → ℕ → ℤ → Slot × Operand
+shape_by (Some b) (Some i) s d = if is_zero d then (slots.BaseIndexScale, operands.MemBaseIndexScale b i s) else (slots.BaseIndexScaleDisp, operands.MemBaseIndexScaleDisp b i s d)
+shape_by (Some b) None s d = if is_zero d then (slots.Deref, operands.MemDeref b) else (slots.Disp, operands.Disp b d)
+shape_by None (Some i) s d = if is_zero d then (slots.IndexScale, operands.MemIndexScale i s) else (slots.IndexScaleDisp, operands.MemIndexScaleDisp i s d)
+shape_by None None s d = (slots.DispU32, operands.AbsoluteU32 (cast_unsigned w32 d))
+
+unfoldable pub shape : Raw → Slot × Operand
+shape raw = shape_by (base_of raw) (index_of raw) (scale_by raw.sib) raw.disp
+
+-- ---- the address form of an operand. Source: Intel SDM volume 2, section 2.1.5, and volume 1, section 3.7.5
+
+-- The form of an operand under 67 or without: a base counts 1, an index its scale, and a named displacement is the
+-- constant. An address of 32 bits is sign-extended without 67. Operands that are no memory, and masked ones, have no
+-- form.
+abbrev pub operand_form : Bool → Operand → Option Linear
+operand_form short (operands.AbsoluteU32 n) = Some (linear short None None 1 (cast_signed w32 n))
+operand_form short (operands.AbsoluteU64 n) = Some (record { modulus = modulus_by short; registers = λ r. 0; next = 0; constant = n % modulus_by short })
+operand_form short (operands.MemDeref b) = Some (linear short (Some b) None 1 (pos 0))
+operand_form short (operands.Disp b d) = Some (linear short (Some b) None 1 d)
+operand_form short (operands.MemIndexScale i s) = Some (linear short None (Some i) s (pos 0))
+operand_form short (operands.MemIndexScaleDisp i s d) = Some (linear short None (Some i) s d)
+operand_form short (operands.MemBaseIndexScale b i s) = Some (linear short (Some b) (Some i) s (pos 0))
+operand_form short (operands.MemBaseIndexScaleDisp b i s d) = Some (linear short (Some b) (Some i) s d)
+operand_form short op = None
+
+-- the address of an operand at sixteen registers and a next pointer
+abbrev pub operand_address : Bool → Operand → List ℕ → ℕ → Option ℕ
+operand_address short op regs next = option_map (λ f. value_at f regs next) (operand_form short op)
 
 -- the memory size of a number, and the bytes that it has where the processor doesn't decide them
 abbrev pub access_size : ℕ → MemoryAccessSize
@@ -64,3 +99,11 @@ operand_width (operands.ImmediateU32 n) = Some 4
 operand_width (operands.ImmediateI64 z) = Some 8
 operand_width (operands.ImmediateU64 n) = Some 8
 operand_width op = None
+
+-- ---- the calls of a visitor, each with its fields
+
+-- a call that names an operand, or one of the two that name none
+pub data Visit : Type 0 where
+  visit_of : Operand → Visit
+  visit_base_index_masked : RegSpec → RegSpec → RegSpec → Visit
+  visit_base_index_disp_masked : RegSpec → RegSpec → ℤ → RegSpec → Visit

@@ -1,5 +1,5 @@
 -- The walk after an opcode byte, as steps.
-use Rattle.std.specs.Prelude.{ℕ, Bool, true, false, if◌then◌else◌, Option, Some, None, List, [], ◌∷◌, length, slice_index_or}
+use Rattle.std.specs.Prelude.{ℕ, Bool, true, false, if◌then◌else◌, Option, Some, None, List, [], ◌∷◌, length, slice_index_or, ◌==◌}
 use Rattle.std.specs.Int.{Width, w8, w16, w32, w64, cast_signed}
 use Rattle.std.specs.Option.{option_map_or}
 use Rattle.x86_operands.specs.Vocabulary.{RegSpec, DecodeError, Prefixes, Raw, Slot, Operand, RegisterSlot, PointerSlot, OperandEncoding, G, Gmm, E, Emm, M, U, Umm, Fixed, Pointer, I8, I16, I32, I64, I32From16, I64Whole, U8, U16, X8, X16, ConstantI8, ConstantU8, Address32, Address64, Moment, AtModRM, AfterAddress, AfterSuffix, Fault, BadOpcode, BadOperand, Incomplete, Verdict, NamedBySuffix, Refuses, PrefixChange, Keeps, ClearsOperandSize, SetsEs, ModrmUse, Absent, EitherForm, Registers, Plan, Reading, Operands, reg_spec, reg_field, rm_field, is_memory, absent_modrm, as_register, register_of}
@@ -12,9 +12,27 @@ use Rattle.x86_operands.specs.declared.operands.Slot.TheVariants as slots
 use Rattle.x86_operands.specs.declared.operands.Operand.TheVariants as operands
 use Rattle.x86_operands.specs.declared.plans.RegisterSlot.TheVariants as reg_slot
 use Rattle.x86_operands.specs.declared.plans.PointerSlot.TheVariants as pointer
-use Rattle.x86_operands.specs.Shape.{shape}
-use Rattle.x86_operands.specs.Suffix.{suffix_opcode}
+use Rattle.x86_operands.specs.Operands.{shape}
 use Rattle.x86_operands.specs.Plans.{RowRecord, list_of, reg_number, rm_number}
+use Rattle.std.specs.Map.{lookup}
+use Rattle.x86_opcodes.specs.Names.{PI2FW, PI2FD, PF2IW, PF2ID, PFNACC, PFPNACC, PFCMPGE, PFMIN, PFRCP, PFRSQRT, PFSUB, PFADD, PFCMPGT, PFMAX, PFRCPIT1, PFRSQIT1, PFSUBR, PFACC, PFCMPEQ, PFMUL, PFRCPIT2, PMULHRW, PSWAPD, PAVGUSB}
+
+-- ---- the last byte of a 3DNow encoding, which names the opcode. Source: AMD APM volume 3, appendix A, tables A-13 and A-14
+
+-- each suffix byte, with the opcode that it names
+abbrev pub suffixes : List (ℕ × ℕ)
+suffixes =
+    (0x0c, PI2FW) ∷ (0x0d, PI2FD) ∷ (0x1c, PF2IW) ∷ (0x1d, PF2ID) ∷
+    (0x8a, PFNACC) ∷ (0x8e, PFPNACC) ∷ (0x90, PFCMPGE) ∷ (0x94, PFMIN) ∷
+    (0x96, PFRCP) ∷ (0x97, PFRSQRT) ∷ (0x9a, PFSUB) ∷ (0x9e, PFADD) ∷
+    (0xa0, PFCMPGT) ∷ (0xa4, PFMAX) ∷ (0xa6, PFRCPIT1) ∷ (0xa7, PFRSQIT1) ∷
+    (0xaa, PFSUBR) ∷ (0xae, PFACC) ∷ (0xb0, PFCMPEQ) ∷ (0xb4, PFMUL) ∷
+    (0xb6, PFRCPIT2) ∷ (0xb7, PMULHRW) ∷ (0xbb, PSWAPD) ∷ (0xbf, PAVGUSB) ∷
+    []
+
+-- the opcode that a suffix byte names
+unfoldable pub suffix_opcode : ℕ → Option ℕ
+suffix_opcode byte = lookup (λ b. b == byte) suffixes
 
 -- ---- operands
 

@@ -1,7 +1,7 @@
 //! What a row has after its opcode byte, known from a ModRM byte alone.
 ghost use Rattle.std.specs.Prelude.{◌≡◌, ◌≤◌};
 ghost use Rattle.x86_fields.specs.Pieces.{option_bytes};
-ghost use Rattle.x86_operands.specs.Asks.{immediate_width, modrm_of, encoding_ask, immediates_width, used_modrm, plan_ask};
+ghost use Rattle.x86_operands.specs.Asks.{immediate_width, modrm_of, encoding_ask, immediates_width, plan_ask};
 
 use crate::encodings::FormEncoding;
 use crate::order::Position;
@@ -68,24 +68,15 @@ fn immediates_width(encodings: OperandEncodings) -> u8
     }
 }
 
-/// A ModRM byte as a row uses it.
-pub fn used_modrm(usage: ModrmUse, modrm: ModRM) -> ModRM
-    ensures { result ≡ used_modrm usage modrm }
-{
-    match usage {
-        ModrmUse::Absent => ModRM::absent(),
-        ModrmUse::EitherForm => modrm,
-        ModrmUse::Registers => modrm.as_register(),
-    }
-}
-
-/// A ModRM byte as a row uses it, or C0 where there is none.
-pub fn used_or_none(usage: ModrmUse, modrm: Option<u8>) -> ModRM
+/// A ModRM byte as a row uses it: C0 where the row has none, and mod 11 where mod isn't looked at. One that isn't there
+/// reads as C0.
+pub fn used_modrm(usage: ModrmUse, modrm: Option<u8>) -> ModRM
     ensures { result ≡ modrm_of usage (option_bytes modrm) }
 {
-    match modrm {
-        Some(modrm) => used_modrm(usage, ModRM::new(modrm)),
-        None => ModRM::absent(),
+    match (usage, modrm) {
+        (ModrmUse::Absent, _) | (_, None) => ModRM::absent(),
+        (ModrmUse::EitherForm, Some(byte)) => ModRM::new(byte),
+        (ModrmUse::Registers, Some(byte)) => ModRM::new(byte).as_register(),
     }
 }
 

@@ -1,16 +1,13 @@
 //! What a line of the operand encodings says.
 
-ghost use Rattle.std.specs.Prelude.{◌≡◌, ◌<◌, ℕ};
+ghost use Rattle.std.specs.Prelude.{◌≡◌, ℕ};
 ghost use Rattle.x86_operands.specs.Vocabulary.{Prefixes, is_memory};
 ghost use Rattle.x86_fields.specs.Sizes.{size_prefixes};
-ghost use Rattle.x86_operands.specs.Encodings.{size_bytes, last_encoding, reg_encoding, rm_encoding, encoding_at, encodings_in, plan_of, use_of, is_described, allows, size_at};
+ghost use Rattle.x86_operands.specs.Encodings.{size_bytes, last_encoding, use_of, is_described, allows, size_at};
 
-use crate::form_sizes::{by_class, named_size};
+use crate::form_sizes::named_size;
 use crate::order::Order;
-use crate::plans::{
-    Fault, ModrmUse, Moment, OperandEncoding, OperandEncodings, Plan, RegisterSlot, accumulator_of,
-    reads, refused, register_at,
-};
+use crate::plans::{ModrmUse, OperandEncoding, RegisterSlot};
 use crate::sizing::SIZES;
 use x86_fields::{ModRM, Prefixes, SizePrefixes, Width};
 use x86_opcodes::Opcode;
@@ -55,7 +52,7 @@ pub enum AfterOpcode {
     Opcode,
     /// No ModRM: register 0 is an operand.
     Accumulator,
-    /// A form with a separate plan.
+    /// A form whose rows no line describes.
     ByPlan(ModrmUse),
     /// Another group.
     Group,
@@ -143,97 +140,26 @@ impl Last {
             Last::U8 => OperandEncoding::U8,
             Last::U16 => OperandEncoding::U16,
             Last::I32 => OperandEncoding::I32,
-            Last::Iv => by_class(
-                prefixes.v_class(),
-                OperandEncoding::I16,
-                OperandEncoding::I32,
-                OperandEncoding::I64,
-            ),
-            Last::Ivq => by_class(
-                prefixes.v_class(),
-                OperandEncoding::I16,
-                OperandEncoding::I32,
-                OperandEncoding::I64Whole,
-            ),
-            Last::Ip if prefixes.operand_size() && !prefixes.has_w() => OperandEncoding::I16,
-            Last::Ip => OperandEncoding::I32,
+            Last::Iv => match prefixes.size_prefixes() {
+                SizePrefixes::Neither => OperandEncoding::I32,
+                SizePrefixes::OperandSize => OperandEncoding::I16,
+                SizePrefixes::W | SizePrefixes::Both => OperandEncoding::I64,
+            },
+            Last::Ivq => match prefixes.size_prefixes() {
+                SizePrefixes::Neither => OperandEncoding::I32,
+                SizePrefixes::OperandSize => OperandEncoding::I16,
+                SizePrefixes::W | SizePrefixes::Both => OperandEncoding::I64Whole,
+            },
+            Last::Ip => match prefixes.size_prefixes() {
+                SizePrefixes::OperandSize => OperandEncoding::I16,
+                _ => OperandEncoding::I32,
+            },
             Last::SignedOne => OperandEncoding::ConstantI8(1),
             Last::UnsignedOne => OperandEncoding::ConstantU8(1),
             Last::Three => OperandEncoding::ConstantU8(3),
             Last::Cl => OperandEncoding::Fixed(RegisterSlot::Reg, RegSpec::b(1)),
             Last::ClThird => OperandEncoding::Fixed(RegisterSlot::Third, RegSpec::b(1)),
         }
-    }
-}
-
-fn reg_encoding(
-    after_opcode: AfterOpcode,
-    width: Width,
-    num: u8,
-    prefixes: &Prefixes,
-) -> OperandEncoding
-    requires { num < 8 }
-    ensures { result ≡ reg_encoding after_opcode width num prefixes.now }
-{
-    let class = width.class(prefixes.size_prefixes());
-    match (after_opcode, width) {
-        (AfterOpcode::Opcode, _) => OperandEncoding::Fixed(
-            RegisterSlot::Reg,
-            register_at(num, class, prefixes),
-        ),
-        (AfterOpcode::Accumulator, _) => accumulator_of(class, prefixes),
-        (_, Width::Mm) => OperandEncoding::Gmm,
-        _ => OperandEncoding::G(class),
-    }
-}
-
-fn rm_encoding(after_opcode: AfterOpcode, width: Width, prefixes: &Prefixes) -> OperandEncoding
-    ensures { result ≡ rm_encoding after_opcode width prefixes.now }
-{
-    let class = width.class(prefixes.size_prefixes());
-    match (after_opcode, width) {
-        (AfterOpcode::Memory, _) => OperandEncoding::M,
-        (AfterOpcode::Registers, Width::Mm) => OperandEncoding::Umm,
-        (AfterOpcode::Registers, _) => OperandEncoding::U(class),
-        (_, Width::Mm) => OperandEncoding::Emm,
-        _ => OperandEncoding::E(class),
-    }
-}
-
-fn encoding_at(
-    order: &Order,
-    k: usize,
-    reg: OperandEncoding,
-    rm: OperandEncoding,
-    last: OperandEncoding,
-) -> OperandEncoding
-    ensures { result ≡ encoding_at order.now k reg rm last }
-{
-    if order.reg as usize == k {
-        reg
-    } else if order.rm as usize == k {
-        rm
-    } else {
-        last
-    }
-}
-
-fn encodings_in(
-    order: &Order,
-    reg: OperandEncoding,
-    rm: OperandEncoding,
-    last: OperandEncoding,
-) -> OperandEncodings
-    ensures { result ≡ encodings_in order.now reg rm last }
-{
-    let first = encoding_at(order, 0, reg, rm, last);
-    let second = encoding_at(order, 1, reg, rm, last);
-    let third = encoding_at(order, 2, reg, rm, last);
-    match order.count {
-        0 => OperandEncodings::Zero,
-        1 => OperandEncodings::One(first),
-        2 => OperandEncodings::Two(first, second),
-        _ => OperandEncodings::Three(first, second, third),
     }
 }
 
@@ -265,9 +191,26 @@ impl AfterOpcode {
     }
 }
 
+impl Size {
+    /// The bytes. From `Size::Bare` on the operation alone decides them.
+    #[inline(always)]
+    pub fn bytes(self, opcode: Opcode, sizes: SizePrefixes) -> u8
+        ensures { (p : Prefixes) → sizes ≡ size_prefixes p → result ≡ size_bytes self opcode p }
+    {
+        if self as usize >= Size::Bare as usize {
+            return named_size(self, opcode);
+        }
+        let bytes = SIZES[self as usize][sizes as usize];
+        if matches!(self, Size::Call) && opcode != Opcode::CALL {
+            0
+        } else {
+            bytes
+        }
+    }
+}
+
 impl FormEncoding {
-    /// The memory size in bytes, in the memory form or in the register form. From `Size::Bare` on the operation alone
-    /// decides it.
+    /// The memory size in bytes, in the memory form or in the register form.
     #[inline(always)]
     pub fn mem_size(&self, in_memory: bool, opcode: Opcode, sizes: SizePrefixes) -> u8
         ensures { (modrm : ℕ) (p : Prefixes) → in_memory ≡ is_memory modrm
@@ -278,15 +221,7 @@ impl FormEncoding {
         } else {
             self.in_register
         };
-        if size as usize >= Size::Bare as usize {
-            return named_size(size, opcode);
-        }
-        let bytes = SIZES[size as usize][sizes as usize];
-        if matches!(size, Size::Call) && opcode != Opcode::CALL {
-            0
-        } else {
-            bytes
-        }
+        size.bytes(opcode, sizes)
     }
 
     /// How a form with this encoding uses a ModRM byte.
@@ -300,27 +235,5 @@ impl FormEncoding {
             AfterOpcode::ByPlan(usage) => usage,
             _ => ModrmUse::EitherForm,
         }
-    }
-
-    /// The plan of a form with this encoding, whose opcode byte carries `num`.
-    pub fn plan(&self, opcode: Opcode, num: u8, prefixes: &Prefixes, modrm: ModRM) -> Plan
-        requires { num < 8 }
-        ensures { result ≡ plan_of self.now num opcode prefixes.now modrm }
-    {
-        let reg = reg_encoding(self.after_opcode, self.reg, num, prefixes);
-        let rm = rm_encoding(self.after_opcode, self.rm, prefixes);
-        let encodings = encodings_in(&self.order, reg, rm, self.last.encoding(prefixes));
-        let plan = reads(
-            opcode,
-            encodings,
-            self.mem_size(modrm.is_memory(), opcode, prefixes.size_prefixes()),
-        );
-        let moment = match self.after_opcode {
-            AfterOpcode::Memory | AfterOpcode::FormByOpcode => Moment::AtModRM,
-            AfterOpcode::Registers => Moment::AfterAddress,
-            _ => return plan,
-        };
-        let refuses = !self.after_opcode.allows(opcode, modrm);
-        refused(refuses, Fault::BadOperand, moment, plan)
     }
 }

@@ -6,8 +6,7 @@
 ghost use Rattle.std.specs.Prelude.{◌≡◌, ℕ, true};
 ghost use Rattle.x86_fields.specs.declared.prefixes.Prefixes.{Prefixes};
 ghost use Rattle.x86_forms.specs.Words.{carried};
-ghost use Rattle.x86_operands.specs.Forms.{modrm_use};
-ghost use Rattle.x86_operands.specs.FormEncodings.{Belongs, Describes, HasSeparatePlan};
+ghost use Rattle.x86_operands.specs.Forms.{modrm_use, Belongs, Describes};
 ghost use Rattle.x86_operands.specs.Encodings.{is_sound, plan_of, use_of};
 
 use crate::FormEncoding;
@@ -18,7 +17,6 @@ use x86_forms::{Form, WordRow};
 #[inline(always)]
 pub fn form_encoding(form: Form) -> &'static FormEncoding
     ensures describes { Describes result.now form }
-    ensures separate { HasSeparatePlan result.now form }
     ensures group { Belongs result.now.after_opcode form }
     ensures sound { is_sound result.now ≡ true }
     ensures usage { modrm_use form ≡ use_of result.now.after_opcode }
@@ -30,7 +28,6 @@ pub fn form_encoding(form: Form) -> &'static FormEncoding
 #[inline(always)]
 pub fn word_encoding(found: &WordRow) -> &'static FormEncoding
     ensures describes { Describes result.now found.now.row.form }
-    ensures separate { HasSeparatePlan result.now found.now.row.form }
     ensures group { Belongs result.now.after_opcode found.now.row.form }
     ensures sound { is_sound result.now ≡ true }
     ensures usage { modrm_use found.now.row.form ≡ use_of result.now.after_opcode }

@@ -1,23 +1,9 @@
-//! Sizes and classes by the opcode, or by a separate form.
+//! Memory sizes by the opcode.
 ghost use Rattle.std.specs.Prelude.{◌≡◌};
-ghost use Rattle.x86_operands.specs.Plans.{by_class};
-ghost use Rattle.x86_operands.specs.FormSizes.{named_size};
+ghost use Rattle.x86_operands.specs.Encodings.{named_size};
 
 use crate::encodings::Size;
 use x86_opcodes::Opcode;
-use x86_regs::RegisterClass;
-
-/// What goes by a class of v: of a word, of a doubleword or of a quadword.
-#[inline(always)]
-pub fn by_class<T: Copy>(class: RegisterClass, word: T, double: T, quad: T) -> T
-    ensures { result ≡ by_class class word double quad }
-{
-    match class {
-        RegisterClass::W => word,
-        RegisterClass::Q => quad,
-        _ => double,
-    }
-}
 
 /// A size that the operation alone decides, and 0 for the others.
 #[inline(never)]

@@ -9,26 +9,22 @@ ghost use Rattle.x86_operands.specs.Forms.{form_plan, form_record};
 ghost use Rattle.x86_operands.specs.PlanSteps.{record_step};
 
 use crate::form_encodings::form_encoding;
+use crate::form_rows::form_rows;
 use crate::plans::Plan;
 use crate::reader::{Reading, read_modrm, read_plan};
-use crate::separate_plans::separate_plan;
+use crate::rows::choose;
 use crate::{Ask, plan_ask, used_modrm};
 use x86_arch::Reader;
 use x86_fields::{DecodeError, ModRM, Prefixes};
-use x86_forms::{Form, TableRow};
-use x86_opcodes::Opcode;
+use x86_forms::TableRow;
 
-/// The plan of a plain form.
-pub fn form_plan(form: Form, opcode: Opcode, prefixes: &Prefixes, modrm: ModRM) -> Plan
-    requires { IsForm form }
-    ensures { result ≡ form_plan form opcode prefixes.now modrm }
+/// The plan of a row whose form is a plain form, at a ModRM byte.
+#[tactic(auto, unfolding(crate::specs::Forms::form_plan))]
+pub fn form_plan(row: &TableRow, prefixes: &Prefixes, modrm: ModRM) -> Plan
+    requires { IsForm row.now.form }
+    ensures { result ≡ form_plan row.now prefixes.now modrm }
 {
-    let encoding = form_encoding(form);
-    if encoding.after_opcode.is_described() {
-        encoding.plan(opcode, form.carried(), prefixes, modrm)
-    } else {
-        separate_plan(form, opcode, prefixes, modrm)
-    }
+    choose(form_rows(row.form), row, false, prefixes, modrm).plan(row, prefixes, modrm)
 }
 
 /// Reads what a row has after its opcode byte, where its form is a plain form: ModRM, the memory operand, the
@@ -48,7 +44,7 @@ pub fn read_form<T: Reader<u64, u8>>(
         ≡ record_step (form_record row prefixes) prefixes (T.state reader.old) }
 {
     let modrm = read_modrm(reader, form_encoding(row.form).modrm_use())?;
-    let plan = form_plan(row.form, row.opcode, &prefixes, modrm);
+    let plan = form_plan(&row, &prefixes, modrm);
     read_plan(reader, &plan, prefixes, modrm)
 }
 
@@ -63,7 +59,7 @@ pub fn form_ask(row: TableRow, prefixes: Prefixes, modrm: u8) -> Ask
     ensures { result ≡ ask_of (form_record row prefixes) modrm }
 {
     let usage = form_encoding(row.form).modrm_use();
-    let modrm = used_modrm(usage, ModRM::new(modrm));
-    let plan = form_plan(row.form, row.opcode, &prefixes, modrm);
+    let modrm = used_modrm(usage, Some(modrm));
+    let plan = form_plan(&row, &prefixes, modrm);
     plan_ask(usage, modrm, &plan)
 }

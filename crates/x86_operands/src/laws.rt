@@ -10,12 +10,10 @@ ghost use Rattle.x86_fields.specs.Steps.{outcome};
 ghost use Rattle.x86_forms.specs.Groups.{is_group};
 ghost use Rattle.x86_operands.specs.Vocabulary.{DecodeError, Fault, Incomplete, Moment, Prefixes, Raw, Reading, Refuses, TableRow, address_size};
 ghost use Rattle.x86_operands.specs.Forms.{form_record};
-ghost use Rattle.x86_operands.specs.Linear.{operand_form, operand_address};
-ghost use Rattle.x86_operands.specs.Pieces.{SpellsRow, RefusesRow, IsReadRow, IsRefusedRow, IsOpenRow};
+ghost use Rattle.x86_operands.specs.Operands.{operand_form, operand_address, shape};
+ghost use Rattle.x86_operands.specs.Pieces.{SpellsRow, RefusesRow, IsReadRow, IsRefusedRow, IsOpenRow, AreTied, names_modrm, encodings_of, HasShapeAt};
 ghost use Rattle.x86_operands.specs.Plans.{RowRecord};
-ghost use Rattle.x86_operands.specs.Shape.{shape};
 ghost use Rattle.x86_operands.specs.PlanSteps.{record_step, error_of};
-ghost use Rattle.x86_operands.specs.Ties.{AreTied, names_modrm, encodings_of, HasShapeAt};
 
 use crate::{Ask, MemoryAccessSize, Operand, Slot};
 
@@ -52,7 +50,7 @@ pub fn plain_sizes_are_small()
 
 /// The shape of raw fields has their address form, so `address_of` and `Operand::address` of the shape agree at every
 /// register file and next pointer. Source: Intel SDM volume 2, section 2.1.5.
-#[tactic(auto, using(crate::proofs::ShapeLemmas::shape_has_form, crate::proofs::ShapeLemmas::shape_has_address))]
+#[tactic(auto, using(crate::proofs::OperandLemmas::shape_has_form, crate::proofs::OperandLemmas::shape_has_address))]
 pub fn shapes_have_the_address()
     ensures form { (raw : Raw) → FitsSigned w32 raw.disp →
         operand_form raw.address_size (shape raw).1 ≡ Some (raw_form raw) }

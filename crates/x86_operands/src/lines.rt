@@ -1,6 +1,6 @@
 //! The operand encodings of the forms: a line a form, in the order of the variants of `Form`.
 //!
-//! Written by tools/tables.py from specs/Forms.antt.
+//! Written by tools/tables.py from specs/Rows.antt.
 //! The proof doesn't rest on that script: a wrong entry is refused.
 use crate::AfterOpcode::{ByPlan, ByReg, Group};
 use crate::plans::ModrmUse;

@@ -3,45 +3,21 @@
 ghost use Rattle.std.specs.Prelude.{◌≡◌, ◌<◌, ◌≢◌, ℕ, Option, true};
 ghost use Rattle.x86_fields.specs.Steps.{outcome};
 ghost use Rattle.x86_operands.specs.Vocabulary.{Nowhere, Prefixes, Raw};
-ghost use Rattle.x86_operands.specs.PlanSteps.{memory_or, pointer_slot, read_plan, register_slot};
+ghost use Rattle.x86_operands.specs.PlanSteps.{memory_or, read_plan};
 ghost use Rattle.x86_operands.specs.OperandList.{is_last_encoding, reg_pair, fixed_pair, no_operands, reading_with, value_if_ok, put_in, put_at, put_encoded, encoded_read, leading_read, slot_in, operand_in};
 ghost use Rattle.x86_operands.specs.Encodings.{plan_of, last_encoding, allows, is_sound, order_fits};
 
 use crate::order::Position;
-use crate::plans::{OperandEncoding, PointerSlot, RegisterSlot, register_at};
+use crate::plans::{OperandEncoding, PointerSlot, RegisterSlot};
 use crate::shapes::put_shape;
 use crate::{AfterOpcode, FormEncoding, Last, Operand, Slot};
 use x86_arch::Reader;
 use x86_fields::{
-    DecodeError, ModRM, PrefixedModRM, Prefixes, Raw, Width, read_raw, read_u8, read_u16, read_u32,
-    read_u64,
+    DecodeError, ModRM, PrefixedModRM, Prefixes, Raw, Width, extend, read_raw, read_u8, read_u16,
+    read_u32, read_u64,
 };
 use x86_opcodes::Opcode;
 use x86_regs::{RegSpec, RegisterClass};
-
-/// The slot of a register that the record names.
-fn register_slot(slot: RegisterSlot) -> Slot
-    ensures { result ≡ register_slot slot }
-{
-    match slot {
-        RegisterSlot::Reg => Slot::Reg,
-        RegisterSlot::Rm => Slot::Rm,
-        RegisterSlot::Third => Slot::Third,
-    }
-}
-
-/// The slot of a string operand, as an answer has it.
-fn pointer_slot(slot: PointerSlot) -> Slot
-    ensures { result ≡ pointer_slot slot }
-{
-    match slot {
-        PointerSlot::Deref => Slot::Deref,
-        PointerSlot::DerefEsi => Slot::DerefEsi,
-        PointerSlot::DerefEdi => Slot::DerefEdi,
-        PointerSlot::DerefRsi => Slot::DerefRsi,
-        PointerSlot::DerefRdi => Slot::DerefRdi,
-    }
-}
 
 /// The operands of an instruction, in the order in which a listing names them.
 #[derive(Clone, Copy, Debug, Drop)]
@@ -151,7 +127,14 @@ impl Operands {
             OperandEncoding::I64Whole => self.put_i64(at, read_u64(reader)?.cast_signed()),
             OperandEncoding::ConstantI8(imm) => self.put_i8(at, imm),
             OperandEncoding::ConstantU8(imm) => self.put_u8(at, imm),
-            OperandEncoding::Fixed(slot, reg) => self.put_register(at, register_slot(slot), reg),
+            OperandEncoding::Fixed(slot, reg) => {
+                let slot = match slot {
+                    RegisterSlot::Reg => Slot::Reg,
+                    RegisterSlot::Rm => Slot::Rm,
+                    RegisterSlot::Third => Slot::Third,
+                };
+                self.put_register(at, slot, reg);
+            }
             // No last operand has another encoding.
             _ => {}
         }
@@ -198,7 +181,14 @@ impl Operands {
                 RegSpec::mm(modrm.rm_field()),
             ),
             OperandEncoding::Pointer(slot, base) => {
-                self.put_at(at, pointer_slot(slot), Operand::MemDeref { base });
+                let slot = match slot {
+                    PointerSlot::Deref => Slot::Deref,
+                    PointerSlot::DerefEsi => Slot::DerefEsi,
+                    PointerSlot::DerefEdi => Slot::DerefEdi,
+                    PointerSlot::DerefRsi => Slot::DerefRsi,
+                    PointerSlot::DerefRdi => Slot::DerefRdi,
+                };
+                self.put_at(at, slot, Operand::MemDeref { base });
             }
             OperandEncoding::I32From16 => self.put_i32(at, read_u16(reader)?.cast_signed() as i32),
             OperandEncoding::X8 => self.put_u16(at, Slot::ImmInDisp, read_u8(reader)? as u16),
@@ -262,10 +252,11 @@ impl Operands {
             Position::Nowhere => {}
             at => {
                 let class = encoding.reg.class(fields.sizes);
-                let reg = match encoding.after_opcode {
-                    AfterOpcode::Opcode => register_at(num, class, fields.prefixes),
-                    _ => fields.prefixes.register(class, 0),
+                let num = match encoding.after_opcode {
+                    AfterOpcode::Opcode => extend(fields.prefixes.has_b(), num),
+                    _ => 0,
                 };
+                let reg = fields.prefixes.register(class, num);
                 self.put_at(at as usize, Slot::Reg, Operand::Register { reg });
             }
         }

@@ -1,7 +1,6 @@
 //! Operands and where they come from.
 ghost use Rattle.std.specs.Prelude.{◌≡◌};
-ghost use Rattle.x86_operands.specs.Linear.{operand_address};
-ghost use Rattle.x86_operands.specs.Operands.{is_memory_operand, is_memory_slot, operand_width, access_size, bytes_size};
+ghost use Rattle.x86_operands.specs.Operands.{operand_address, is_memory_operand, is_memory_slot, operand_width, access_size, bytes_size};
 
 use x86_fields::{AddressParts, RegFile, UNDECIDED_SIZE};
 use x86_regs::{MergeMode, RegSpec, SaeMode};

@@ -1,9 +1,5 @@
 //! The vocabulary of the rows' records.
-ghost use Rattle.std.specs.Prelude.{◌≡◌, ◌<◌, ℕ};
-ghost use Rattle.x86_operands.specs.Plans.{reads, refused, refuses, size_by, register_at, accumulator_of};
-
 pub use x86_fields::UNDECIDED_SIZE;
-use x86_fields::{ModRM, Prefixes, extend};
 use x86_opcodes::Opcode;
 use x86_regs::{RegSpec, RegisterClass};
 
@@ -147,63 +143,4 @@ pub struct Plan {
     pub change: PrefixChange,
     /// Whether there is an answer.
     pub verdict: Verdict,
-}
-
-/// The plan that accepts.
-pub fn reads(opcode: Opcode, encodings: OperandEncodings, size: u8) -> Plan
-    ensures { result ≡ reads opcode encodings size }
-{
-    Plan {
-        opcode,
-        encodings,
-        size,
-        change: PrefixChange::Keeps,
-        verdict: Verdict::Accepts,
-    }
-}
-
-/// The plan that refuses.
-pub fn refuses(fault: Fault, moment: Moment) -> Plan
-    ensures { result ≡ refuses fault moment }
-{
-    Plan {
-        verdict: Verdict::Refuses(fault, moment),
-        ..reads(Opcode::Invalid, OperandEncodings::Zero, 0)
-    }
-}
-
-/// The plan, refused where the test holds.
-pub fn refused(test: bool, fault: Fault, moment: Moment, plan: Plan) -> Plan
-    ensures { result ≡ refused test fault moment plan }
-{
-    if test {
-        Plan {
-            verdict: Verdict::Refuses(fault, moment),
-            ..plan
-        }
-    } else {
-        plan
-    }
-}
-
-/// The size in the memory form, or in the register form.
-pub fn size_by(modrm: ModRM, memory: u8, register: u8) -> u8
-    ensures { result ≡ size_by modrm memory register }
-{
-    if modrm.is_memory() { memory } else { register }
-}
-
-/// The register that an opcode byte carries, with B.
-pub fn register_at(num: u8, class: RegisterClass, prefixes: &Prefixes) -> RegSpec
-    requires { num < 8 }
-    ensures { result ≡ register_at num class prefixes.now }
-{
-    prefixes.register(class, extend(prefixes.has_b(), num))
-}
-
-/// Register 0 of a class.
-pub fn accumulator_of(class: RegisterClass, prefixes: &Prefixes) -> OperandEncoding
-    ensures { result ≡ accumulator_of class prefixes.now }
-{
-    OperandEncoding::Fixed(RegisterSlot::Reg, prefixes.register(class, 0))
 }

@@ -4,8 +4,7 @@ ghost use Rattle.std.specs.Prelude.{◌≡◌, ℕ, ◌<◌, ◌∷◌, []};
 ghost use Rattle.x86_arch.specs.Reader.{State};
 ghost use Rattle.x86_fields.specs.Steps.{outcome};
 ghost use Rattle.x86_operands.specs.Plans.{list_of};
-ghost use Rattle.x86_operands.specs.Suffix.{suffix_opcode};
-ghost use Rattle.x86_operands.specs.PlanSteps.{filled_step, error_of, refuse_at, read_opcode, read_memory, changed, read_plan, read_modrm, refuse_fault};
+ghost use Rattle.x86_operands.specs.PlanSteps.{suffix_opcode, filled_step, refuse_at, read_opcode, read_memory, read_plan, read_modrm, refuse_fault};
 
 use crate::operand_list::Operands;
 use crate::plans::{Fault, ModrmUse, Moment, OperandEncodings, Plan, PrefixChange, Verdict};
@@ -31,13 +30,15 @@ pub struct Reading {
     pub prefixes: Prefixes,
 }
 
-fn error_of(fault: Fault) -> DecodeError
-    ensures { result ≡ error_of fault }
+/// A refusal, if there is a fault, as of a row at its opcode byte.
+pub fn refuse_fault(fault: Option<Fault>) -> Result<(), DecodeError>
+    ensures { (s : State ℕ) → outcome result s ≡ refuse_fault fault s }
 {
     match fault {
-        Fault::BadOpcode => DecodeError::InvalidOpcode,
-        Fault::BadOperand => DecodeError::InvalidOperand,
-        Fault::Incomplete => DecodeError::IncompleteDecoder,
+        None => Ok(()),
+        Some(Fault::BadOpcode) => Err(DecodeError::InvalidOpcode),
+        Some(Fault::BadOperand) => Err(DecodeError::InvalidOperand),
+        Some(Fault::Incomplete) => Err(DecodeError::IncompleteDecoder),
     }
 }
 
@@ -46,23 +47,13 @@ fn refuse_at(verdict: Verdict, at: Moment) -> Result<(), DecodeError>
     ensures { (s : State ℕ) → outcome result s ≡ refuse_at verdict at s }
 {
     match verdict {
-        Verdict::Refuses(fault, moment) if moment == at => Err(error_of(fault)),
+        Verdict::Refuses(fault, moment) if moment == at => refuse_fault(Some(fault)),
         _ => Ok(()),
     }
 }
 
-/// The refusal of a row at its opcode byte.
-pub fn refuse_fault(fault: Option<Fault>) -> Result<(), DecodeError>
-    ensures { (s : State ℕ) → outcome result s ≡ refuse_fault fault s }
-{
-    match fault {
-        None => Ok(()),
-        Some(fault) => Err(error_of(fault)),
-    }
-}
-
 /// The opcode that a suffix byte names (AMD APM volume 3, appendix A.1.2).
-#[tactic(auto, unfolding(crate::specs::Suffix::suffix_opcode))]
+#[tactic(auto, unfolding(crate::specs::PlanSteps::suffix_opcode))]
 pub fn suffix_opcode(byte: u8) -> Option<Opcode>
     ensures { result ≡ suffix_opcode byte }
 {
@@ -130,16 +121,6 @@ fn read_memory<T: Reader<u64, u8>>(
     }
 }
 
-fn changed(change: PrefixChange, prefixes: Prefixes) -> Prefixes
-    ensures { result ≡ changed change prefixes }
-{
-    match change {
-        PrefixChange::Keeps => prefixes,
-        PrefixChange::ClearsOperandSize => prefixes.without_operand_size(),
-        PrefixChange::SetsEs => prefixes.with_es(),
-    }
-}
-
 impl Operands {
     /// The operands in order, each with its immediate.
     #[tactic(auto, unfolding(crate::specs::PlanSteps::filled_step, crate::specs::PlanSteps::operands_step))]
@@ -204,7 +185,11 @@ pub fn read_plan_into<T: Reader<u64, u8>>(
     *opcode = read_opcode(reader, plan.verdict, plan.opcode)?;
     refuse_at(plan.verdict, Moment::AfterSuffix)?;
     operand_list.mem_size = plan.size;
-    *prefixes = changed(plan.change, *prefixes);
+    match plan.change {
+        PrefixChange::Keeps => {}
+        PrefixChange::ClearsOperandSize => *prefixes = prefixes.without_operand_size(),
+        PrefixChange::SetsEs => *prefixes = prefixes.with_es(),
+    }
     Ok(())
 }
 
@@ -216,7 +201,7 @@ pub fn read_modrm<T: Reader<u64, u8>>(reader: &mut T, modrm: ModrmUse) -> Result
         ModrmUse::Absent => Ok(ModRM::absent()),
         _ => {
             let byte = next_byte(reader)?;
-            Ok(used_modrm(modrm, ModRM::new(byte)))
+            Ok(used_modrm(modrm, Some(byte)))
         }
     }
 }

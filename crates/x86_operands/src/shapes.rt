@@ -1,7 +1,7 @@
 //! The memory operand of raw fields.
 ghost use Rattle.std.specs.Prelude.{◌≡◌, ◌<◌};
 ghost use Rattle.x86_operands.specs.OperandList.{put_at};
-ghost use Rattle.x86_operands.specs.Shape.{shape};
+ghost use Rattle.x86_operands.specs.Operands.{shape};
 
 use crate::operand_list::Operands;
 use crate::{Operand, Slot};
@@ -18,7 +18,7 @@ pub fn shape(raw: &Raw) -> (Slot, Operand)
 
 /// Writes the memory operand of raw fields at an index. Each arm writes: a pair by value would go through the stack.
 #[inline(always)]
-#[tactic(auto, unfolding(crate::specs::Shape::shape))]
+#[tactic(auto, unfolding(crate::specs::Operands::shape))]
 pub(crate) fn put_shape(operand_list: &mut Operands, at: usize, raw: &Raw)
     requires { at < 4 }
     ensures { operand_list.new ≡ put_at at (shape raw.now) operand_list.old }

@@ -1,7 +1,6 @@
 //! Visitors of operands.
 ghost use Rattle.std.specs.Prelude.{◌≡◌, Result, true};
-ghost use Rattle.x86_operands.specs.Operands.{is_masked};
-ghost use Rattle.x86_operands.specs.Visitor.{Visit, visit_of, visit_base_index_masked, visit_base_index_disp_masked};
+ghost use Rattle.x86_operands.specs.Operands.{is_masked, Visit, visit_of, visit_base_index_masked, visit_base_index_disp_masked};
 
 use crate::operands::Operand;
 use x86_regs::{MergeMode, RegSpec, SaeMode};

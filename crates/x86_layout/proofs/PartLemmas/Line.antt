@@ -12,11 +12,9 @@ use Rattle.x86_operands.specs.declared.encodings.FormEncoding.{FormEncoding}
 use Rattle.x86_operands.specs.declared.encodings.RegGroup.{RegGroup}
 use Rattle.x86_operands.specs.declared.encodings.RegGroup.TheVariants as group
 use Rattle.x86_operands.specs.declared.plans.ModrmUse.TheVariants.{EitherForm}
-use Rattle.x86_operands.proofs.AskLemmas.{encoding_has_ask}
-use Rattle.x86_operands.specs.FormEncodings.{Belongs, Describes, group_form}
-use Rattle.x86_operands.specs.Forms.{form_plan, form_record, modrm_use}
-use Rattle.x86_groups.specs.ByReg.{Chooses, has_either_form, reg_plan}
-use Rattle.x86_groups.specs.Groups.{group_modrm, group_plan, group_record, record_of}
+use Rattle.x86_operands.proofs.OrderLemmas.{encoding_has_ask}
+use Rattle.x86_operands.specs.Forms.{Belongs, Describes, group_form, form_plan, form_record, modrm_use}
+use Rattle.x86_groups.specs.Groups.{Chooses, has_either_form, reg_plan, group_modrm, group_plan, group_record, record_of}
 
 -- ---- a plain form
 
@@ -31,7 +29,7 @@ module _ (strict : Bool) (row : TableRow) (p : Prefixes) (m : ℕ) (e : FormEnco
   unfolding ask_of form_record
   form_line belongs usage describes =
       ap (λ t. ask_of (if t then group_record strict row p else form_record row p) m) (described_plain e.after_opcode row.form is belongs)
-      ∙ ap (λ u. plan_ask u (used_modrm u m) (form_plan row.form row.opcode p (used_modrm u m))) usage
+      ∙ ap (λ u. plan_ask u (used_modrm u m) (form_plan row p (used_modrm u m))) usage
       ∙ ap (plan_ask (use_of e.after_opcode) used) (sym (describes is row.opcode used p))
       ∙ encoding_has_ask e (carried row.form) row.opcode p used sound
 

@@ -3,51 +3,42 @@
 use Rattle.std.proofs.Common.{◌≡◌, ℕ, ◌||◌, Bool, if◌then◌else◌, true, false, Option, Some, None, refl, ◌∙◌, arith}
 use Rattle.std.specs.List.{list_all, list_any}
 use Rattle.std.proofs.lemmas.Bool.{and_parts, or_right}
-use Rattle.x86_regs.specs.declared.RegisterClass.{RegisterClass}
-use Rattle.x86_regs.specs.declared.RegisterClass.TheVariants as class
 use Rattle.x86_fields.specs.declared.prefixes.Prefixes.{Prefixes}
 use Rattle.x86_fields.specs.declared.rex.PrefixRex.{PrefixRex}
 use Rattle.x86_fields.specs.ModRM.{reg_field, is_memory}
 use Rattle.x86_fields.specs.Raw.{has_r, has_w}
-use Rattle.x86_fields.specs.Sizes.{v_class}
 use Rattle.x86_forms.specs.declared.Form.{Form}
 use Rattle.x86_operands.specs.declared.plans.ModrmUse.TheVariants.{EitherForm}
 use Rattle.x86_operands.specs.declared.plans.Plan.{Plan}
 use Rattle.x86_forms.specs.declared.Form.TheVariants as form
 use Rattle.x86_forms.specs.declared.TableRow.{TableRow}
 use Rattle.x86_forms.specs.Groups.{is_group}
-use Rattle.x86_operands.specs.Plans.{RowRecord, immediate_of, list_of}
+use Rattle.x86_operands.specs.Plans.{RowRecord, list_of}
 use Rattle.x86_operands.specs.Pieces.{is_refusal}
-use Rattle.x86_operands.specs.Forms.{form_plan, form_record, modrm_use}
+use Rattle.x86_operands.specs.Forms.{form_plan, form_record}
 use Rattle.x86_decode.specs.Addresses.{is_modrm_encoding}
 use Rattle.x86_layout.specs.Tightening.Tighten.{bits_in}
-use Rattle.x86_groups.specs.declared.letters.Letter.{Letter}
-use Rattle.x86_groups.specs.declared.letters.Letter.TheVariants as letter
-use Rattle.x86_groups.specs.declared.letters.Letters.{Letters}
-use Rattle.x86_groups.specs.declared.letters.Letters.TheVariants as letters
-use Rattle.x86_groups.specs.declared.rows.Content.{Content}
-use Rattle.x86_groups.specs.declared.rows.Content.TheVariants.{Reads, Refuses}
-use Rattle.x86_groups.specs.Columns.{choose, letter_encoding, operand_encodings, plan_of_row, verdict_of}
+use Rattle.x86_operands.specs.declared.encodings.Last.{Last}
+use Rattle.x86_operands.specs.declared.letters.Letter.{Letter}
+use Rattle.x86_operands.specs.declared.letters.Letters.{Letters}
+use Rattle.x86_operands.specs.declared.rows.Content.{Content}
+use Rattle.x86_operands.specs.declared.rows.Content.TheVariants.{Reads, Refuses}
+use Rattle.x86_operands.specs.declared.letters.Letter.TheVariants as letter
+use Rattle.x86_operands.specs.declared.letters.Letters.TheVariants as letters
+use Rattle.x86_operands.specs.Columns.{choose, letter_encoding, operand_encodings, plan_of_row, verdict_of}
+use Rattle.x86_operands.specs.Encodings.{last_encoding}
+use Rattle.x86_operands.specs.Rows.{form_rows}
+use Rattle.x86_operands.proofs.PlainLemmas as form_facts
+use Rattle.x86_operands.proofs.ContentLemmas.{SamePrefixes, no_rm_names, in_memory, is_memory_letter, letters_list, rm_free_letter, first_in_memory, rows_alike}
 use Rattle.x86_groups.specs.Groups.{is_f3_alone, group_fault, group_plan, group_record, record_of}
 use Rattle.x86_groups.specs.Rows.{group_rows}
-use Rattle.x86_groups.proofs.RowLemmas.{SamePrefixes, no_rm_names}
-use Rattle.x86_groups.proofs.FactLemmas.{in_memory, is_memory_letter, letters_list, rm_free_letter}
-use Rattle.x86_groups.proofs.PlanLemmas.{first_in_memory, plan_alike}
-
--- ---- mod and rm
-
-module _ (m n : ℕ) (mm : is_memory m ≡ true) (nm : is_memory n ≡ true) (same : reg_field n ≡ reg_field m) where
-  plain_at : (f : Form) (o : ℕ) (p : Prefixes) → modrm_use f ≡ EitherForm → form_plan f o p n ≡ form_plan f o p m
-  plain_at f o p usage = first_of (cc (mm, nm, same), grind (arith, mm, nm, same))
+use Rattle.x86_groups.proofs.GroupLemmas as group_facts
 
 -- ---- the bits X and B
 
 module _ (x b : Bool) (p : Prefixes) (m : ℕ) (mm : is_memory m ≡ true) where
   abbrev With : Option PrefixRex → Prefixes
   With rex = record p { rex = rex }
-
-  plain_bits : (r : PrefixRex) (f : Form) (o : ℕ) → modrm_use f ≡ EitherForm → form_plan f o (With (Some (record r { x = x; b = b }))) m ≡ form_plan f o (With (Some r)) m
-  plain_bits r f o usage = first_of (cc (mm), grind (arith, mm))
 
   fault_bits : (r : PrefixRex) (f : Form) → group_fault f (With (Some (record r { x = x; b = b }))) ≡ group_fault f (With (Some r))
   unfolding is_f3_alone
@@ -69,12 +60,12 @@ module _ (strict : Bool) (row : TableRow) (p : Prefixes) (x b : Bool) (m n : ℕ
   Other = record p { rex = bits_in x b p.rex }
 
   same_prefixes : SamePrefixes Other p
-  same_prefixes = record { f2 = refl; f3 = refl; operand_size = refl; w = with_bits x b p m mm has_w (λ r. refl) p.rex; r = with_bits x b p m mm has_r (λ r. refl) p.rex }
+  same_prefixes = record { f2 = refl; f3 = refl; operand_size = refl; address_size = refl; w = with_bits x b p m mm has_w (λ r. refl) p.rex; r = with_bits x b p m mm has_r (λ r. refl) p.rex }
 
   by_plan : (group : Bool) → (By strict row group p).modrm ≡ EitherForm → (By strict row group Other).plan n ≡ (By strict row group p).plan m
-  unfolding group_record form_record
-  by_plan true usage = plan_alike row strict Other p n m same_prefixes nm mm same
-  by_plan false usage = plain_at m n mm nm same row.form row.opcode Other usage ∙ with_bits x b p m mm (λ q. form_plan row.form row.opcode q m) (λ r. plain_bits x b p m mm r row.form row.opcode usage) p.rex
+  unfolding group_record group_plan form_record form_plan
+  by_plan true usage = rows_alike (group_rows row.form) row strict Other p n m (group_facts.rows_keep_reg row.form) same_prefixes nm mm same
+  by_plan false usage = rows_alike (form_rows row.form) row false Other p n m (form_facts.rows_keep_reg row.form usage) same_prefixes nm mm same
 
   by_use : (group : Bool) → (By strict row group Other).modrm ≡ (By strict row group p).modrm
   unfolding group_record form_record
@@ -97,50 +88,35 @@ module _ (strict : Bool) (row : TableRow) (p : Prefixes) (x b : Bool) (m n : ℕ
 abbrev pub writes : Plan → Bool
 writes plan = is_refusal plan.verdict || list_any is_modrm_encoding (list_of plan.encodings)
 
-either : (b : Bool) (x y : Plan) → writes x ≡ true → writes y ≡ true → writes (if b then x else y) ≡ true
-either b x y e f = grind arith
+last_is_none : (l : Last) (p : Prefixes) → is_modrm_encoding (last_encoding l p) ≡ false
+last_is_none l p = grind arith
 
-then_writes : (b : Bool) (x y : Plan) → b ≡ true → writes x ≡ true → writes (if b then x else y) ≡ true
-then_writes b x y e f = grind arith
-
-immediate_is_none : (c : RegisterClass) → is_modrm_encoding (immediate_of c) ≡ false
-immediate_is_none class.W = refl
-immediate_is_none class.Q = refl
-immediate_is_none c = refl
-
-module _ (p : Prefixes) (m : ℕ) where
-  letter_is : (l : Letter) → is_modrm_encoding (letter_encoding l p m) ≡ is_memory_letter l
-  letter_is letter.Iv = immediate_is_none (v_class p)
+module _ (own : TableRow) (p : Prefixes) (m : ℕ) where
+  letter_is : (l : Letter) → is_modrm_encoding (letter_encoding l own p m) ≡ is_memory_letter l
+  letter_is (letter.Last l) = last_is_none l p
   letter_is letter.Jv = grind arith
+  letter_is letter.Offset = grind arith
   letter_is l = refl
 
-  letters_are : (operands : Letters) → list_any is_modrm_encoding (list_of (operand_encodings operands p m)) ≡ list_any is_memory_letter (letters_list operands)
+  letters_are : (operands : Letters) → list_any is_modrm_encoding (list_of (operand_encodings operands own p m)) ≡ list_any is_memory_letter (letters_list operands)
   letters_are letters.Zero = refl
   letters_are (letters.One a) = rw (letter_is a) refl
   letters_are (letters.Two a b) = rw (letter_is a, letter_is b) refl
   letters_are (letters.Three a b c) = rw (letter_is a, letter_is b, letter_is c) refl
   letters_are (letters.Four a b c d) = rw (letter_is a, letter_is b, letter_is c, letter_is d) refl
 
-  content_writes : (content : Content) (o : ℕ) → in_memory content ≡ true → writes (plan_of_row content o p m) ≡ true
-  content_writes (Reads names operands memory register change) o h =
+  content_writes : (content : Content) → in_memory content ≡ true → writes (plan_of_row content own p m) ≡ true
+  content_writes (Reads names operands memory register change) h =
       let x = and_parts (no_rm_names names) _ h in
       let y = and_parts (list_all rm_free_letter (letters_list operands)) _ x.1 in
       or_right (is_refusal (verdict_of names)) _ (letters_are operands ∙ y.1)
-  content_writes (Refuses fault moment) o h = refl
-
-module _ (p : Prefixes) (m : ℕ) (mm : is_memory m ≡ true) where
-  plain_writes : (f : Form) (o : ℕ) → modrm_use f ≡ EitherForm → writes (form_plan f o p m) ≡ true
-  plain_writes f o usage = first_of (cc (mm), search (then_writes, either, mm), grind (arith, mm))
-
-  group_writes : (row : TableRow) (strict : Bool) → writes (group_plan row p m strict) ≡ true
-  unfolding group_plan
-  group_writes row strict = content_writes p m (choose (group_rows row.form) strict p m) row.opcode (first_in_memory row.form strict p m mm)
+  content_writes (Refuses operands fault moment) h = refl
 
 module _ (strict : Bool) (row : TableRow) (p : Prefixes) (m : ℕ) (mm : is_memory m ≡ true) where
   by_kind : (group : Bool) → (By strict row group p).modrm ≡ EitherForm → writes ((By strict row group p).plan m) ≡ true
-  unfolding group_record form_record
-  by_kind true usage = group_writes p m mm row strict
-  by_kind false usage = plain_writes p m mm row.form row.opcode usage
+  unfolding group_record group_plan form_record form_plan
+  by_kind true usage = content_writes row p m (choose (group_rows row.form) row strict p m) (first_in_memory (group_rows row.form) row strict p m (group_facts.rows_keep_reg row.form) mm)
+  by_kind false usage = content_writes row p m (choose (form_rows row.form) row false p m) (first_in_memory (form_rows row.form) row false p m (form_facts.rows_keep_reg row.form usage) mm)
 
   pub row_writes : (record_of strict row p).modrm ≡ EitherForm → is_refusal ((record_of strict row p).plan m).verdict ≡ false → list_any is_modrm_encoding (list_of ((record_of strict row p).plan m).encodings) ≡ true
   row_writes usage accepted = cc (by_kind (is_group row.form) usage, accepted)

@@ -10,8 +10,7 @@ use Rattle.x86_operands.specs.declared.plans.PrefixChange.{PrefixChange}
 use Rattle.x86_operands.specs.declared.plans.ModrmUse.TheVariants.{EitherForm}
 use Rattle.x86_operands.specs.declared.plans.Plan.{Plan}
 use Rattle.x86_operands.specs.declared.reader.Reading.{Reading}
-use Rattle.x86_operands.specs.Operands.{is_memory_slot}
-use Rattle.x86_operands.specs.Shape.{shape}
+use Rattle.x86_operands.specs.Operands.{is_memory_slot, shape}
 use Rattle.x86_fields.specs.ModRM.{is_memory}
 use Rattle.x86_operands.specs.Plans.{RowRecord, list_of}
 use Rattle.x86_operands.specs.PlanSteps.{pair_at, four_of, changed, reading_from}

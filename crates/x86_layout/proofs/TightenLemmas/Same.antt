@@ -17,8 +17,7 @@ use Rattle.x86_operands.specs.declared.plans.OperandEncoding.{OperandEncoding}
 use Rattle.x86_operands.specs.declared.plans.PrefixChange.{PrefixChange}
 use Rattle.x86_operands.specs.declared.plans.Plan.{Plan}
 use Rattle.x86_operands.specs.declared.reader.Reading.{Reading}
-use Rattle.x86_operands.specs.Shape.{shape}
-use Rattle.x86_operands.specs.Linear.{operand_address}
+use Rattle.x86_operands.specs.Operands.{shape, operand_address}
 use Rattle.x86_operands.specs.Plans.{list_of, reg_number}
 use Rattle.x86_operands.specs.PlanSteps.{pair_at, four_of, changed, reading_from}
 use Rattle.x86_operands.specs.Pieces.{operand_from, SpellsOperands, SpellsTail}

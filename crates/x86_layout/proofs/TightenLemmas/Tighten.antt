@@ -1,8 +1,7 @@
 -- What is known of raw fields from the parts of an encoding, and how long a shortest relative is.
 use Rattle.std.specs.List.{list_any}
-use Rattle.x86_operands.specs.Operands.{is_memory_slot}
-use Rattle.x86_operands.specs.Shape.{shape}
-use Rattle.x86_operands.specs.Ties.{is_modrm_encoding, names_modrm}
+use Rattle.x86_operands.specs.Operands.{is_memory_slot, shape}
+use Rattle.x86_operands.specs.Pieces.{is_modrm_encoding, names_modrm, SpellsMemory}
 use Rattle.x86_operands.specs.Plans.{list_of}
 use Rattle.x86_operands.specs.declared.plans.OperandEncoding.{OperandEncoding}
 use Rattle.x86_operands.specs.declared.plans.OperandEncodings.{OperandEncodings}
@@ -18,7 +17,6 @@ use Rattle.x86_fields.specs.ModRM.{rm_field, is_memory}
 use Rattle.x86_fields.specs.Run.{reading_of}
 use Rattle.x86_fields.specs.Pieces.{option_bytes}
 use Rattle.x86_operands.specs.declared.reader.Reading.{Reading}
-use Rattle.x86_operands.specs.Pieces.{SpellsMemory}
 use Rattle.x86_operands.specs.Asks.{ask_of}
 use Rattle.x86_layout.specs.declared.parts.heads.Head.{Head}
 use Rattle.x86_fields.specs.declared.parts.Parts.{Parts}

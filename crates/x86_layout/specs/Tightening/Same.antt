@@ -6,8 +6,7 @@ use Rattle.x86_fields.specs.Prefixes.{address_size, rex, with_rex}
 use Rattle.x86_fields.specs.Linear.{raw_form, IsSameAddress}
 use Rattle.x86_operands.specs.declared.operands.Slot.{Slot}
 use Rattle.x86_operands.specs.declared.operands.Operand.{Operand}
-use Rattle.x86_operands.specs.Shape.{shape}
-use Rattle.x86_operands.specs.Linear.{operand_address}
+use Rattle.x86_operands.specs.Operands.{shape, operand_address}
 use Rattle.x86_decode.specs.declared.instructions.Instruction.{Instruction}
 use Rattle.x86_decode.specs.Instruction.{opcode, operand_count, mem_size_number, slot_at, operand_at}
 use Rattle.x86_layout.specs.Tightening.Tighten.{bits_in}

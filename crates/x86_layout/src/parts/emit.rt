@@ -154,7 +154,7 @@ fn has_lawful_lock(strict: bool, entry: &Entry, fields: &Fields) -> bool
 {
     let tail = tail_of(fields);
     let mut reader = U8Reader::new(tail.as_slice());
-    match read_row(strict, entry.row, entry.prefixes, &mut reader) {
+    match read_row(&mut reader, entry.row, entry.prefixes, strict) {
         Ok(reading) => allows_lock(&reading),
         Err(_) => false,
     }

@@ -119,7 +119,7 @@ fn ask_of_row(found: &WordRow, prefixes: Prefixes, modrm: u8) -> Ask
 {
     let line = line_at(found, ModRM::new(modrm));
     if line.after_opcode.is_described() {
-        let used = used_modrm(line.modrm_use(), ModRM::new(modrm));
+        let used = used_modrm(line.modrm_use(), Some(modrm));
         encoding_ask(line, &prefixes, used)
     } else {
         row_ask(found.row, prefixes, modrm)

@@ -1,4 +1,4 @@
-use Rattle.x86_groups.proofs.RegLemmas.{reg_chosen, reg_form, reg_group, reg_record}
+use Rattle.x86_groups.proofs.LineLemmas.{reg_chosen, reg_form, reg_group, reg_record}
 use Rattle.x86_groups.proofs.laws.reg_groups_are_chosen.Goals as goal
 
 pub returns-clause-group : goal.returns-clause-group

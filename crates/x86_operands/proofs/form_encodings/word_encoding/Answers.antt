@@ -7,7 +7,7 @@ returns c =
     let found = c.args.found.now in
     let line = line_at found.row.form found.form_number found.fits found.form_number_is _ in
     let numbered = numbered_at found.row.form found.form_number found.number _ found.fits found.form_number_is found.number_is in
-    record { describes = line.describes; separate = line.separate; group = line.group; sound = line.sound; usage = line.usage; numbered = numbered }
+    record { describes = line.describes; group = line.group; sound = line.sound; usage = line.usage; numbered = numbered }
 
 pub bounds-found : goal.bounds-found
 bounds-found c =

@@ -1,5 +1,5 @@
 use Rattle.std.proofs.Common.{subst}
-use Rattle.x86_operands.specs.FormEncodings.{Belongs}
+use Rattle.x86_operands.specs.Forms.{Belongs}
 use Rattle.x86_layout.proofs.PartLemmas.Line.{form_line, group_line}
 use Rattle.x86_layout.proofs.parts.heads.line_at.Goals as goal
 

@@ -1,18 +1,40 @@
-//! Rows of groups: where each is, and what it has there. The first row that holds counts.
+//! Rows of forms: where each is, and what it has there. The first row that holds counts.
 ghost use Rattle.std.specs.Prelude.{◌≡◌};
-ghost use Rattle.x86_groups.specs.Columns.{choose, is_there, is_placed, is_prefixed, is_rm, is_named, named, opcode_of, plan_of_row};
+ghost use Rattle.x86_forms.specs.Words.{IsForm};
+ghost use Rattle.x86_operands.specs.Columns.{choose, is_there, is_placed, is_prefixed, is_reg, is_rm, is_named, named, opcode_of, plan_of_row};
 
 use crate::letters::{Letters, RowSize};
+use crate::plans::{Fault, Moment, Plan, PrefixChange, Verdict};
 use x86_fields::{ModRM, Prefixes};
+use x86_forms::TableRow;
 use x86_opcodes::Opcode;
-use x86_operands::plans::{Fault, Moment, Plan, PrefixChange, Verdict, refuses, size_by};
 
 /// In which forms of ModRM a row is.
 #[derive(Clone, Copy, Drop)]
 pub enum Place {
+    /// No ModRM byte.
+    Bare,
     Memory,
     Register,
     Either,
+}
+
+/// With which reg a row is.
+#[derive(Clone, Copy, Drop)]
+pub enum Reg {
+    Any,
+    Is(u8),
+    /// The first and the last one.
+    From(u8, u8),
+}
+
+/// With which rm a row is.
+#[derive(Clone, Copy, Drop)]
+pub enum Rm {
+    Any,
+    Is(u8),
+    /// 0, and unless the choice is strict any other.
+    ZeroIfStrict,
 }
 
 /// Under which prefixes a row is.
@@ -30,21 +52,18 @@ pub enum When {
     F3,
     /// 66, whatever else there is.
     With66,
+    /// 67, whatever else there is.
+    With67,
     /// F3 and 66.
     F3With66,
     /// W of a live REX.
     RexW,
     /// R of a live REX.
     RexR,
-}
-
-/// With which rm a row is.
-#[derive(Clone, Copy, Drop)]
-pub enum Rm {
-    Any,
-    Is(u8),
-    /// 0, and unless the choice is strict any other.
-    ZeroIfStrict,
+    /// Any, where the opcode byte and B choose register 0.
+    Register0,
+    /// Any, where the opcode map has the opcode of this number.
+    Opcode(u16),
 }
 
 /// How a row names its operation: by numbers of opcodes, of which 0 is no name.
@@ -71,7 +90,9 @@ pub enum Content {
         in_register: RowSize,
         change: PrefixChange,
     },
+    /// A refusal, with the operands whose bytes the row has.
     Refuses {
+        operands: Letters,
         fault: Fault,
         moment: Moment,
     },
@@ -81,77 +102,36 @@ pub enum Content {
 #[derive(Clone, Copy, Drop)]
 pub struct Where {
     pub place: Place,
-    /// The first and the last reg.
-    pub first: u8,
-    pub last: u8,
+    pub reg: Reg,
     pub rm: Rm,
 }
 
-/// A row of a group.
+/// A row of a form.
 #[derive(Clone, Copy, Drop)]
-pub struct GroupRow {
+pub struct FormRow {
     pub at: Where,
     pub when: When,
     pub content: Content,
 }
 
-/// A row that is read: where it is, the prefixes, the names, the operands, and the two memory sizes; and, where it is
-/// not none, the change of the answer's prefixes.
-macro_rules! read {
-    ($place:ident $first:literal $last:literal $rm:expr; $when:ident; $names:expr; $operands:expr; $memory:expr; $register:expr) => {
-        read!($place $first $last $rm; $when; $names; $operands; $memory; $register; Keeps)
-    };
-    ($place:ident $first:literal $last:literal $rm:expr; $when:ident; $names:expr; $operands:expr; $memory:expr; $register:expr; $change:ident) => {
-        GroupRow {
-            at: Where {
-                place: Place::$place,
-                first: $first,
-                last: $last,
-                rm: $rm,
-            },
-            when: When::$when,
-            content: Content::Reads {
-                names: $names,
-                operands: $operands,
-                in_memory: $memory,
-                in_register: $register,
-                change: PrefixChange::$change,
-            },
-        }
-    };
-}
-
-pub(crate) use read;
-
-/// A row that is refused: where it is, the prefixes, the error and its moment.
-macro_rules! refusal {
-    ($place:ident $first:literal $last:literal $rm:expr; $when:ident; $fault:ident $moment:ident) => {
-        GroupRow {
-            at: Where {
-                place: Place::$place,
-                first: $first,
-                last: $last,
-                rm: $rm,
-            },
-            when: When::$when,
-            content: Content::Refuses {
-                fault: Fault::$fault,
-                moment: Moment::$moment,
-            },
-        }
-    };
-}
-
-pub(crate) use refusal;
-
-impl GroupRow {
+impl FormRow {
     fn is_placed(&self, modrm: ModRM) -> bool
         ensures { result ≡ is_placed self.now.at.place modrm }
     {
         match self.at.place {
             Place::Memory => modrm.is_memory(),
             Place::Register => !modrm.is_memory(),
-            Place::Either => true,
+            Place::Bare | Place::Either => true,
+        }
+    }
+
+    fn has_reg(&self, modrm: ModRM) -> bool
+        ensures { result ≡ is_reg self.now.at.reg modrm }
+    {
+        match self.at.reg {
+            Reg::Any => true,
+            Reg::Is(reg) => modrm.reg_field() == reg,
+            Reg::From(first, last) => first <= modrm.reg_field() && modrm.reg_field() <= last,
         }
     }
 
@@ -165,8 +145,8 @@ impl GroupRow {
         }
     }
 
-    fn has_prefixes(&self, prefixes: &Prefixes) -> bool
-        ensures { result ≡ is_prefixed self.now.when prefixes.now }
+    fn has_prefixes(&self, own: &TableRow, prefixes: &Prefixes) -> bool
+        ensures { result ≡ is_prefixed self.now.when own.now prefixes.now }
     {
         match self.when {
             When::Always => true,
@@ -176,12 +156,15 @@ impl GroupRow {
             When::F2 => prefixes.repnz(),
             When::F3 => prefixes.rep(),
             When::With66 => prefixes.operand_size(),
+            When::With67 => prefixes.address_size(),
             When::F3With66 => prefixes.rep() && prefixes.operand_size(),
             When::RexW => prefixes.has_w(),
             When::RexR => match prefixes.rex() {
                 Some(rex) => rex.r(),
                 None => false,
             },
+            When::Register0 => own.form.carried() == 0 && !prefixes.has_b(),
+            When::Opcode(number) => number == own.opcode.number(),
         }
     }
 
@@ -202,28 +185,34 @@ impl GroupRow {
     }
 
     /// Whether the row is there.
-    fn is_there(&self, strict: bool, prefixes: &Prefixes, modrm: ModRM) -> bool
-        ensures { result ≡ is_there self.now strict prefixes.now modrm }
+    fn is_there(&self, own: &TableRow, strict: bool, prefixes: &Prefixes, modrm: ModRM) -> bool
+        ensures { result ≡ is_there self.now own.now strict prefixes.now modrm }
     {
         self.is_placed(modrm)
-            && self.at.first <= modrm.reg_field()
-            && modrm.reg_field() <= self.at.last
+            && self.has_reg(modrm)
             && self.has_rm(strict, modrm)
-            && self.has_prefixes(prefixes)
+            && self.has_prefixes(own, prefixes)
             && self.has_name(modrm)
     }
 }
 
-/// What the first row has that is there.
-pub fn choose(rows: &[GroupRow], strict: bool, prefixes: &Prefixes, modrm: ModRM) -> Content
-    ensures { result ≡ choose rows.now strict prefixes.now modrm }
+/// What the first row has that is there; `own` is the row in the opcode map.
+pub fn choose(
+    rows: &[FormRow],
+    own: &TableRow,
+    strict: bool,
+    prefixes: &Prefixes,
+    modrm: ModRM,
+) -> Content
+    ensures { result ≡ choose rows.now own.now strict prefixes.now modrm }
 {
     for row in rows {
-        if row.is_there(strict, prefixes, modrm) {
+        if row.is_there(own, strict, prefixes, modrm) {
             return row.content;
         }
     }
     Content::Refuses {
+        operands: Letters::Zero,
         fault: Fault::BadOpcode,
         moment: Moment::AtModRM,
     }
@@ -238,11 +227,11 @@ pub fn named(number: u16) -> Opcode
 }
 
 impl Names {
-    fn opcode(&self, own: Opcode, modrm: ModRM) -> Opcode
-        ensures { result ≡ opcode_of self.now own modrm }
+    fn opcode(&self, own: &TableRow, modrm: ModRM) -> Opcode
+        ensures { result ≡ opcode_of self.now own.now modrm }
     {
         match self {
-            Names::Own => own,
+            Names::Own => own.opcode,
             Names::BySuffix => Opcode::Invalid,
             Names::Name(number) => named(*number),
             Names::ByReg(names) => named(names[modrm.reg_field() as usize]),
@@ -252,9 +241,10 @@ impl Names {
 }
 
 impl Content {
-    /// The plan at a ModRM byte; `own` is the opcode of the row in the opcode map.
-    pub fn plan(&self, own: Opcode, prefixes: &Prefixes, modrm: ModRM) -> Plan
-        ensures { result ≡ plan_of_row self.now own prefixes.now modrm }
+    /// The plan at a ModRM byte; `own` is the row in the opcode map.
+    pub fn plan(&self, own: &TableRow, prefixes: &Prefixes, modrm: ModRM) -> Plan
+        requires { IsForm own.now.form }
+        ensures { result ≡ plan_of_row self.now own.now prefixes.now modrm }
     {
         match self {
             Content::Reads {
@@ -265,19 +255,29 @@ impl Content {
                 change,
             } => Plan {
                 opcode: names.opcode(own, modrm),
-                encodings: operands.encodings(prefixes, modrm),
-                size: size_by(
-                    modrm,
-                    in_memory.bytes(prefixes),
-                    in_register.bytes(prefixes),
-                ),
+                encodings: operands.encodings(own, prefixes, modrm),
+                size: if modrm.is_memory() {
+                    in_memory.bytes(own.opcode, prefixes)
+                } else {
+                    in_register.bytes(own.opcode, prefixes)
+                },
                 change: *change,
                 verdict: match names {
                     Names::BySuffix => Verdict::NamedBySuffix,
                     _ => Verdict::Accepts,
                 },
             },
-            Content::Refuses { fault, moment } => refuses(*fault, *moment),
+            Content::Refuses {
+                operands,
+                fault,
+                moment,
+            } => Plan {
+                opcode: Opcode::Invalid,
+                encodings: operands.encodings(own, prefixes, modrm),
+                size: 0,
+                change: PrefixChange::Keeps,
+                verdict: Verdict::Refuses(*fault, *moment),
+            },
         }
     }
 }

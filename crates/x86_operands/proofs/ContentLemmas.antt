@@ -1,0 +1,335 @@
+-- What the first row has: that its plan passes the tests of plans, and what it goes by in the memory form.
+use Rattle.std.proofs.Common.{◌&&◌, ◌≡◌, inl, inr, ◌≤◌, ℕ, nat_lt, Bool, true, false, not, ◌||◌, List, [], ◌∷◌, map, refl, sym, ap, ◌∙◌, arith, true≢false, ◌≢◌, if◌then◌else◌, rules}
+use Rattle.std.specs.List.{list_all, list_any}
+use Rattle.std.proofs.lemmas.Bool.{and_parts, or_cases, and_left}
+use Rattle.std.proofs.lemmas.Bool.Decides.{nat_tests}
+use Rattle.x86_fields.specs.Pieces.{total}
+use Rattle.x86_operands.specs.Vocabulary.{Prefixes, Width, Last, Size, TableRow, BadOpcode, AtModRM, reg_field, is_memory, class_of, RegisterClass, Fault, Incomplete, Moment, Verdict, Refuses, Plan, PrefixChange, OperandEncodings, width_of, has_r, has_w, repnz, rep}
+use Rattle.x86_operands.specs.RowVocabulary.{Letter, Letters, RowSize, Bytes, Named, FarPointer, Names, Content, Reads, Refuses, FormRow, Place, Register, Reg, When, Rm, ByRm}
+use Rattle.x86_operands.specs.declared.encodings.Last.TheVariants as last
+use Rattle.x86_operands.specs.declared.letters.Letter.TheVariants as letter
+use Rattle.x86_operands.specs.declared.letters.Letters.TheVariants as letters
+use Rattle.x86_operands.specs.Asks.{immediate_width, immediates_width}
+use Rattle.x86_operands.specs.Encodings.{last_encoding, size_bytes}
+use Rattle.x86_operands.specs.Columns.{choose, letter_encoding, operand_encodings, row_bytes, verdict_of, opcode_of, plan_of_row, is_there, is_placed, is_reg, is_rm, is_prefixed, is_named}
+use Rattle.x86_opcodes.specs.declared.Opcode.{Opcode}
+use Rattle.x86_operands.specs.declared.rows.Rm.TheVariants as rms
+use Rattle.x86_operands.specs.declared.rows.When.TheVariants as when
+
+-- ---- the first row that is there
+
+-- ---- what each row has, the first has
+
+if_has : (P : Content → Type 0) (b : Bool) (x y : Content) → (b ≡ true → P x) → P y → P (if b then x else y)
+if_has P true x y f g = f refl
+if_has P false x y f g = g
+
+pub chosen_has : (P : Content → Type 0) (test : FormRow → Bool) (own : TableRow) (strict : Bool) (p : Prefixes) (m : ℕ) → P (Refuses letters.Zero BadOpcode AtModRM) → ((row : FormRow) → test row ≡ true → is_there row own strict p m ≡ true → P row.content) → (rows : List FormRow) → list_all test rows ≡ true → P (choose rows own strict p m)
+chosen_has P test own strict p m blank each [] h = blank
+chosen_has P test own strict p m blank each (row ∷ rest) h =
+    let parts = and_parts (test row) (list_all test rest) h in
+    if_has P (is_there row own strict p m) row.content (choose rest own strict p m) (λ e. each row parts.0 e) (chosen_has P test own strict p m blank each rest parts.1)
+
+-- ---- rows that are there alike are chosen alike
+
+same_if : (a b : Bool) (x y z : Content) → a ≡ b → y ≡ z → (if a then x else y) ≡ (if b then x else z)
+same_if a b x y z e f = rw (e, f) refl
+
+module _ (test : FormRow → Bool) (own : TableRow) (s t : Bool) (p q : Prefixes) (m n : ℕ) (same : (row : FormRow) → test row ≡ true → is_there row own s p m ≡ is_there row own t q n) where
+  pub chosen_alike : (rows : List FormRow) → list_all test rows ≡ true → choose rows own s p m ≡ choose rows own t q n
+  chosen_alike [] h = refl
+  chosen_alike (row ∷ rest) h =
+      let parts = and_parts (test row) (list_all test rest) h in
+      same_if (is_there row own s p m) (is_there row own t q n) row.content (choose rest own s p m) (choose rest own t q n) (same row parts.0) (chosen_alike rest parts.1)
+
+-- ---- the memory form: rows go by reg and not by rm, under prefixes that differ in X and B alone
+
+pub record SamePrefixes (p q : Prefixes) : Type 0 where
+  pub f2 : repnz p ≡ repnz q
+  pub f3 : rep p ≡ rep q
+  pub operand_size : p.operand_size ≡ q.operand_size
+  pub address_size : p.address_size ≡ q.address_size
+  pub w : has_w p ≡ has_w q
+  pub r : has_r p ≡ has_r q
+
+-- a row that B doesn't choose
+abbrev pub no_b : When → Bool
+no_b when.Register0 = false
+no_b w = true
+
+prefixed_alike : (w : When) (own : TableRow) (p q : Prefixes) → SamePrefixes p q → no_b w ≡ true → is_prefixed w own p ≡ is_prefixed w own q
+prefixed_alike w own p q h free = grind arith
+
+abbrev pub is_register : Place → Bool
+is_register Register = true
+is_register place = false
+
+register_absent : (place : Place) (m : ℕ) → is_register place ≡ true → is_memory m ≡ true → is_placed place m ≡ false
+register_absent place m h e = grind arith
+
+pub row_absent : (row : FormRow) (own : TableRow) (strict : Bool) (p : Prefixes) (m : ℕ) → is_register row.at.place ≡ true → is_memory m ≡ true → is_there row own strict p m ≡ false
+row_absent row own strict p m h e = and_left (is_placed row.at.place m) _ (register_absent row.at.place m h e)
+
+-- a row that isn't chosen by rm
+abbrev pub no_rm : Rm → Bool
+no_rm rms.Any = true
+no_rm m = false
+
+abbrev pub no_rm_names : Names → Bool
+no_rm_names (ByRm names) = false
+no_rm_names names = true
+
+abbrev pub no_rm_content : Content → Bool
+no_rm_content (Reads names operands memory register change) = no_rm_names names
+no_rm_content (Refuses operands fault moment) = true
+
+-- a row of the register form, or one that is chosen by neither rm nor B
+abbrev pub rm_free : FormRow → Bool
+rm_free row = is_register row.at.place || (no_b row.when && (no_rm row.at.rm && no_rm_content row.content))
+
+module _ (p q : Prefixes) (m n : ℕ) (h : SamePrefixes p q) (mm : is_memory m ≡ true) (nm : is_memory n ≡ true) (same : reg_field m ≡ reg_field n) where
+  rm_alike : (r : Rm) (strict : Bool) → no_rm r ≡ true → is_rm r strict m ≡ is_rm r strict n
+  rm_alike r strict e = grind arith
+
+  reg_alike : (r : Reg) → is_reg r m ≡ is_reg r n
+  reg_alike r = grind arith
+
+  named_alike : (content : Content) → no_rm_content content ≡ true → is_named content m ≡ is_named content n
+  named_alike content e = grind arith
+
+  placed_alike : (place : Place) → is_placed place m ≡ is_placed place n
+  placed_alike place = grind arith
+
+  pub there_alike : (own : TableRow) (strict : Bool) (row : FormRow) → rm_free row ≡ true → is_there row own strict p m ≡ is_there row own strict q n
+  there_alike own strict row free = elim (or_cases (is_register row.at.place) (no_b row.when && (no_rm row.at.rm && no_rm_content row.content)) free) [
+    | inl is ↦ row_absent row own strict p m is mm ∙ sym (row_absent row own strict q n is nm)
+    | inr rest ↦
+        let parts = and_parts (no_b row.when) _ rest in
+        let rms = and_parts (no_rm row.at.rm) (no_rm_content row.content) parts.1 in
+        rw (placed_alike row.at.place, reg_alike row.at.reg, rm_alike row.at.rm strict rms.0, prefixed_alike row.when own p q h parts.0, named_alike row.content rms.1) refl
+  ]
+
+-- ---- tests of plans, that hold of a choice where they hold of both sides
+
+-- a refusal for a form that isn't built
+abbrev pub is_gap : Fault → Bool
+is_gap Incomplete = true
+is_gap fault = false
+
+abbrev pub has_gap : Verdict → Bool
+has_gap (Refuses fault moment) = is_gap fault
+has_gap verdict = false
+
+-- the immediates have at most 8 bytes together
+unfoldable pub narrow : OperandEncodings → Bool
+narrow encodings = nat_lt (immediates_width encodings) 9
+
+-- A plan has no gap, unless gaps are passed, its size is at most 64, and its immediates have at most 8 bytes.
+unfoldable pub passes : Bool → Plan → Bool
+passes gaps plan = ((gaps || not (has_gap plan.verdict)) && nat_lt plan.size 65) && narrow plan.encodings
+
+pub small_if : (b : Bool) (x y : ℕ) → nat_lt x 65 ≡ true → nat_lt y 65 ≡ true → nat_lt (if b then x else y) 65 ≡ true
+small_if b x y h k = grind arith
+
+pub small_width : (c : RegisterClass) → nat_lt (width_of c) 65 ≡ true
+small_width c = search rules
+
+pub plan_passes : (gaps : Bool) (opcode : Opcode) (encodings : OperandEncodings) (n : ℕ) (change : PrefixChange) (verdict : Verdict) → not (has_gap verdict) ≡ true → nat_lt n 65 ≡ true → narrow encodings ≡ true → passes gaps (record { opcode = opcode; encodings = encodings; size = n; change = change; verdict = verdict }) ≡ true
+unfolding passes
+plan_passes gaps opcode encodings n change verdict v k w = grind arith
+
+-- the three tests that a plan passes
+module _ (gaps : Bool) (plan : Plan) (h : passes gaps plan ≡ true) where
+  pub at_most_64 : plan.size ≤ 64
+  unfolding passes
+  at_most_64 = grind (arith, nat_tests)
+
+  pub at_most_8 : immediates_width plan.encodings ≤ 8
+  unfolding passes narrow
+  at_most_8 = grind (arith, nat_tests)
+
+pub without_gap : (plan : Plan) (w : Moment) → passes false plan ≡ true → plan.verdict ≢ Refuses Incomplete w
+unfolding passes
+without_gap plan w h e =
+    let gap : has_gap plan.verdict ≡ true = ap has_gap e in
+    grind arith
+
+abbrev pub letters_list : Letters → List Letter
+letters_list letters.Zero = []
+letters_list (letters.One a) = a ∷ []
+letters_list (letters.Two a b) = a ∷ b ∷ []
+letters_list (letters.Three a b c) = a ∷ b ∷ c ∷ []
+letters_list (letters.Four a b c d) = a ∷ b ∷ c ∷ d ∷ []
+
+-- ---- sizes, immediates and gaps
+
+abbrev pub small_bytes : RowSize → Bool
+small_bytes (Bytes n) = nat_lt n 65
+small_bytes size = true
+
+-- how many bytes of immediate a letter has at most
+abbrev most_of_last : Last → ℕ
+most_of_last last.I8 = 1
+most_of_last last.U8 = 1
+most_of_last last.U16 = 2
+most_of_last last.I32 = 4
+most_of_last last.Iv = 4
+most_of_last last.Ivq = 8
+most_of_last last.Ip = 4
+most_of_last l = 0
+
+abbrev pub most : Letter → ℕ
+most (letter.Last l) = most_of_last l
+most letter.X8 = 1
+most letter.X16 = 2
+most letter.Jv = 4
+most letter.Offset = 8
+most l = 0
+
+abbrev pub few : Letters → Bool
+few operands = nat_lt (total (map most (letters_list operands))) 9
+
+-- no gap, unless gaps are passed, a small size, and few immediates
+abbrev pub fits : Bool → Content → Bool
+fits gaps (Reads names operands memory register change) = small_bytes memory && (small_bytes register && few operands)
+fits gaps (Refuses operands fault moment) = (gaps || not (is_gap fault)) && few operands
+
+abbrev pub row_fits : Bool → FormRow → Bool
+row_fits gaps row = fits gaps row.content
+
+last_most : (l : Last) (p : Prefixes) → immediate_width (last_encoding l p) ≤ most_of_last l
+last_most l p = grind arith
+
+encoding_most : (l : Letter) (own : TableRow) (p : Prefixes) (m : ℕ) → immediate_width (letter_encoding l own p m) ≤ most l
+encoding_most (letter.Last l) own p m = last_most l p
+encoding_most l own p m = grind arith
+
+encodings_narrow : (operands : Letters) (own : TableRow) (p : Prefixes) (m : ℕ) → few operands ≡ true → narrow (operand_encodings operands own p m) ≡ true
+unfolding narrow
+encodings_narrow operands own p m h = grind (arith, nat_tests, encoding_most)
+
+named_small : (s : Size) (o : ℕ) (p : Prefixes) → nat_lt (size_bytes s o p) 65 ≡ true
+named_small s o p = grind (arith, small_width)
+
+far_small : (p : Prefixes) → nat_lt (row_bytes FarPointer 0 p) 65 ≡ true
+far_small p = grind arith
+
+bytes_small : (s : RowSize) (o : ℕ) (p : Prefixes) → small_bytes s ≡ true → nat_lt (row_bytes s o p) 65 ≡ true
+bytes_small (Named s) o p h = named_small s o p
+bytes_small FarPointer o p h = far_small p
+bytes_small s o p h = grind (arith, small_width)
+
+no_gap_named : (names : Names) → not (has_gap (verdict_of names)) ≡ true
+no_gap_named names = grind arith
+
+content_passes : (gaps : Bool) (content : Content) (own : TableRow) (p : Prefixes) (m : ℕ) → fits gaps content ≡ true → passes gaps (plan_of_row content own p m) ≡ true
+unfolding passes
+content_passes gaps (Reads names operands memory register change) own p m h =
+    let parts = and_parts (small_bytes memory) _ h in
+    let rest = and_parts (small_bytes register) _ parts.1 in
+    let o = own.opcode in
+    plan_passes gaps (opcode_of names own m) (operand_encodings operands own p m) _ change (verdict_of names) (no_gap_named names)
+    (small_if (is_memory m) (row_bytes memory o p) (row_bytes register o p) (bytes_small memory o p parts.0) (bytes_small register o p rest.0))
+    (encodings_narrow operands own p m rest.1)
+content_passes gaps (Refuses operands fault moment) own p m h =
+    let parts = and_parts (gaps || not (is_gap fault)) _ h in
+    rw (parts.0, encodings_narrow operands own p m parts.1) refl
+
+-- the plan of the first of rows that fit
+pub rows_pass : (gaps : Bool) (rows : List FormRow) (own : TableRow) (strict : Bool) (p : Prefixes) (m : ℕ) → list_all (row_fits gaps) rows ≡ true → passes gaps (plan_of_row (choose rows own strict p m) own p m) ≡ true
+rows_pass gaps rows own strict p m h =
+    content_passes gaps (choose rows own strict p m) own p m
+    (chosen_has (λ content. fits gaps content ≡ true) (row_fits gaps) own strict p m (blank_fits gaps) (λ row e held. e) rows h)
+  where
+    blank_fits : (gaps : Bool) → fits gaps (Refuses letters.Zero BadOpcode AtModRM) ≡ true
+    blank_fits gaps = grind arith
+
+-- ---- two ModRM bytes of the memory form that have the same reg, under prefixes that differ in X and B alone
+
+abbrev pub rm_free_letter : Letter → Bool
+rm_free_letter letter.StRm = false
+rm_free_letter letter.RdInReg = false
+rm_free_letter (letter.Z at w) = false
+rm_free_letter (letter.A w) = false
+rm_free_letter l = true
+
+abbrev pub is_memory_letter : Letter → Bool
+is_memory_letter (letter.E w) = true
+is_memory_letter letter.M = true
+is_memory_letter letter.Emm = true
+is_memory_letter l = false
+
+-- nothing of it goes by rm, X or B; and it refuses, or has a memory operand
+abbrev pub in_memory : Content → Bool
+in_memory (Reads names operands memory register change) = no_rm_names names && (list_all rm_free_letter (letters_list operands) && list_any is_memory_letter (letters_list operands))
+in_memory (Refuses operands fault moment) = list_all rm_free_letter (letters_list operands)
+
+abbrev pub row_in_memory : FormRow → Bool
+row_in_memory row = is_register row.at.place || in_memory row.content
+
+-- what holds of rows with ModRM
+abbrev pub keeps_reg : FormRow → Bool
+keeps_reg row = rm_free row && row_in_memory row
+
+class_alike : (w : Width) (p q : Prefixes) → SamePrefixes p q → class_of w p ≡ class_of w q
+class_alike w p q h = grind arith
+
+last_alike : (l : Last) (p q : Prefixes) → SamePrefixes p q → last_encoding l p ≡ last_encoding l q
+last_alike l p q h = grind arith
+
+size_alike : (s : Size) (o : ℕ) (p q : Prefixes) → SamePrefixes p q → size_bytes s o p ≡ size_bytes s o q
+size_alike s o p q h = grind arith
+
+-- letters that are the same in two places make the same operands
+module _ (test : Letter → Bool) (a b : TableRow) (p q : Prefixes) (m n : ℕ) (same : (l : Letter) → test l ≡ true → letter_encoding l a p m ≡ letter_encoding l b q n) where
+  first_same : (l : Letter) (rest : Bool) → (test l && rest) ≡ true → letter_encoding l a p m ≡ letter_encoding l b q n
+  first_same l rest e = same l (and_parts (test l) rest e).0
+
+  following : (l : Letter) (rest : Bool) → (test l && rest) ≡ true → rest ≡ true
+  following l rest e = (and_parts (test l) rest e).1
+
+  pub operands_same : (operands : Letters) → list_all test (letters_list operands) ≡ true → operand_encodings operands a p m ≡ operand_encodings operands b q n
+  operands_same letters.Zero e = refl
+  operands_same (letters.One x) e = rw (first_same x _ e) refl
+  operands_same (letters.Two x y) e = rw (first_same x _ e, first_same y _ (following x _ e)) refl
+  operands_same (letters.Three x y z) e = let f = following x _ e in rw (first_same x _ e, first_same y _ f, first_same z _ (following y _ f)) refl
+  operands_same (letters.Four x y z w) e =
+      let f = following x _ e in
+      let g = following y _ f in
+      rw (first_same x _ e, first_same y _ f, first_same z _ g, first_same w _ (following z _ g)) refl
+
+module _ (own : TableRow) (p q : Prefixes) (m n : ℕ) (h : SamePrefixes p q) where
+  encoding_alike : (l : Letter) → rm_free_letter l ≡ true → letter_encoding l own p m ≡ letter_encoding l own q n
+  encoding_alike (letter.Last l) e = last_alike l p q h
+  encoding_alike l e = grind (arith, class_alike)
+
+  encodings_alike : (operands : Letters) → list_all rm_free_letter (letters_list operands) ≡ true → operand_encodings operands own p m ≡ operand_encodings operands own q n
+  encodings_alike = operands_same rm_free_letter own own p q m n encoding_alike
+
+  bytes_alike : (s : RowSize) (o : ℕ) → row_bytes s o p ≡ row_bytes s o q
+  bytes_alike (Named s) o = size_alike s o p q h
+  bytes_alike s o = grind (arith, class_alike)
+
+  opcode_alike : (names : Names) → reg_field m ≡ reg_field n → no_rm_names names ≡ true → opcode_of names own m ≡ opcode_of names own n
+  opcode_alike names same e = grind arith
+
+  pub content_alike : (content : Content) → reg_field m ≡ reg_field n → is_memory m ≡ is_memory n → in_memory content ≡ true → plan_of_row content own p m ≡ plan_of_row content own q n
+  content_alike (Reads names operands memory register change) same mem e =
+      let x = and_parts (no_rm_names names) _ e in
+      let y = and_parts (list_all rm_free_letter (letters_list operands)) _ x.1 in
+      rw (opcode_alike names same x.0, encodings_alike operands y.0, bytes_alike memory own.opcode, bytes_alike register own.opcode, mem) refl
+  content_alike (Refuses operands fault moment) same mem e = rw (encodings_alike operands e) refl
+
+-- in the memory form the first row refuses, or has a memory operand
+pub first_in_memory : (rows : List FormRow) (own : TableRow) (strict : Bool) (p : Prefixes) (m : ℕ) → list_all keeps_reg rows ≡ true → is_memory m ≡ true → in_memory (choose rows own strict p m) ≡ true
+first_in_memory rows own strict p m h mem =
+    chosen_has (λ content. in_memory content ≡ true) keeps_reg own strict p m refl
+    (λ row test held. elim (or_cases (is_register row.at.place) (in_memory row.content) (and_parts (rm_free row) _ test).1) [
+      | inl is ↦ absurd (true≢false (sym held ∙ row_absent row own strict p m is mem))
+      | inr e ↦ e
+    ]) rows h
+
+pub rows_alike : (rows : List FormRow) (own : TableRow) (strict : Bool) (p q : Prefixes) (m n : ℕ) → list_all keeps_reg rows ≡ true → SamePrefixes p q → is_memory m ≡ true → is_memory n ≡ true → reg_field m ≡ reg_field n → plan_of_row (choose rows own strict p m) own p m ≡ plan_of_row (choose rows own strict q n) own q n
+rows_alike rows own strict p q m n kept h mm nm same =
+    content_alike own p q m n h (choose rows own strict p m) same (mm ∙ sym nm) (first_in_memory rows own strict p m kept mm)
+    ∙ ap (λ content. plan_of_row content own q n) (chosen_alike keeps_reg own strict strict p q m n (λ row test. there_alike p q m n h mm nm same own strict row (and_parts (rm_free row) _ test).0) rows kept)

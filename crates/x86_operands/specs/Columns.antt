@@ -1,0 +1,162 @@
+-- What the columns of a row mean. A row says where it is (the form of ModRM, reg, rm, the prefixes) and what it has
+-- there: a name and operands, or a refusal. The first row that holds counts. `own` is the row in the opcode map. Source:
+-- Intel SDM volume 2, appendix A.2 (the letters of operands) and A.4 (the columns of its tables of opcode extensions).
+use Rattle.std.specs.Prelude.{ℕ, nat_le, ◌==◌, ◌+◌, Bool, true, not, ◌&&◌, ◌||◌, if◌then◌else◌, List, [], ◌∷◌, slice_index_or, unwrap_or}
+use Rattle.x86_operands.specs.Vocabulary.{RegisterClass, Prefixes, TableRow, BadOpcode, AtModRM, Keeps, OperandEncoding, OperandEncodings, Plan, Verdict, width_of, reg_spec, reg_field, rm_field, is_memory, operand_size, address_size, has_r, has_w, has_b, repnz, rep, class_of, v_class}
+use Rattle.x86_operands.specs.RowVocabulary.{ByReg, ByRm, BySuffix, Bytes, Content, FarPointer, FormRow, Letter, Letters, Memory, Name, Named, Names, Of, Own, Place, Reads, Refuses, Reg, Register, Rm, RowSize, When}
+use Rattle.x86_regs.specs.declared.RegisterClass.TheVariants as class
+use Rattle.x86_opcodes.specs.Names.{Invalid}
+use Rattle.x86_opcodes.specs.Numbers.{opcode_numbered}
+use Rattle.x86_forms.specs.Words.{carried}
+use Rattle.x86_operands.specs.declared.plans.OperandEncoding.TheVariants as encoding
+use Rattle.x86_operands.specs.declared.plans.OperandEncodings.TheVariants as coded
+use Rattle.x86_operands.specs.declared.plans.RegisterSlot.TheVariants as slot
+use Rattle.x86_operands.specs.declared.plans.PointerSlot.TheVariants as pointer
+use Rattle.x86_operands.specs.declared.plans.Verdict.TheVariants as verdict
+use Rattle.x86_operands.specs.Encodings.{last_encoding, size_bytes}
+use Rattle.x86_operands.specs.Plans.{rm_number, register_at, accumulator_of}
+use Rattle.x86_operands.specs.declared.letters.Letter.TheVariants as letter
+use Rattle.x86_operands.specs.declared.letters.Letters.TheVariants as letters
+use Rattle.x86_operands.specs.declared.rows.Reg.TheVariants as regs
+use Rattle.x86_operands.specs.declared.rows.Rm.TheVariants as rms
+use Rattle.x86_operands.specs.declared.rows.When.TheVariants as when
+
+-- ---- where a row is
+
+-- the memory forms of ModRM, the register forms, both, and no ModRM byte
+abbrev pub is_placed : Place → ℕ → Bool
+is_placed Memory m = is_memory m
+is_placed Register m = not (is_memory m)
+is_placed place m = true
+
+abbrev pub is_reg : Reg → ℕ → Bool
+is_reg regs.Any m = true
+is_reg (regs.Is n) m = reg_field m == n
+is_reg (regs.From first last) m = nat_le first (reg_field m) && nat_le (reg_field m) last
+
+abbrev pub is_rm : Rm → Bool → ℕ → Bool
+is_rm rms.Any strict m = true
+is_rm (rms.Is n) strict m = rm_field m == n
+is_rm rms.ZeroIfStrict strict m = not strict || (rm_field m == 0)
+
+-- Intel's columns of the mandatory prefix, more for rows that 66, 67, W, R or B chooses alone, and one for an opcode
+abbrev pub is_prefixed : When → TableRow → Prefixes → Bool
+is_prefixed when.Always own p = true
+is_prefixed when.NoPrefix own p = not (repnz p) && (not (rep p) && not (operand_size p))
+is_prefixed when.NoRepeat own p = not (repnz p) && not (rep p)
+is_prefixed when.Only66 own p = not (repnz p) && (not (rep p) && operand_size p)
+is_prefixed when.F2 own p = repnz p
+is_prefixed when.F3 own p = rep p
+is_prefixed when.With66 own p = operand_size p
+is_prefixed when.With67 own p = address_size p
+is_prefixed when.F3With66 own p = rep p && operand_size p
+is_prefixed when.RexW own p = has_w p
+is_prefixed when.RexR own p = has_r p
+is_prefixed when.Register0 own p = (carried own.form == 0) && not (has_b p)
+is_prefixed (when.Opcode n) own p = n == own.opcode
+
+-- the name at an index; a list of eight names has `none` where the row isn't
+abbrev pub none : ℕ
+none = 0
+
+abbrev pub name_at : List ℕ → ℕ → ℕ
+name_at names n = slice_index_or names n none
+
+abbrev pub is_named : Content → ℕ → Bool
+is_named (Reads (ByReg names) operands memory register change) m = not (name_at names (reg_field m) == none)
+is_named (Reads (ByRm names) operands memory register change) m = not (name_at names (rm_field m) == none)
+is_named content m = true
+
+abbrev pub is_there : FormRow → TableRow → Bool → Prefixes → ℕ → Bool
+is_there row own strict p m =
+    is_placed row.at.place m
+    && (is_reg row.at.reg m
+    && (is_rm row.at.rm strict m
+    && (is_prefixed row.when own p
+    && is_named row.content m)))
+
+-- what the first row has that is there; where none is, the opcode is refused
+abbrev pub choose : List FormRow → TableRow → Bool → Prefixes → ℕ → Content
+choose [] own strict p m = Refuses letters.Zero BadOpcode AtModRM
+choose (row ∷ rest) own strict p m = if is_there row own strict p m then row.content else choose rest own strict p m
+
+-- ---- the opcode
+
+-- the opcode of a number in a table; one that no name has is Invalid
+abbrev pub named : ℕ → ℕ
+named n = unwrap_or (opcode_numbered n) Invalid
+
+abbrev pub opcode_of : Names → TableRow → ℕ → ℕ
+opcode_of Own own m = own.opcode
+opcode_of BySuffix own m = Invalid
+opcode_of (Name n) own m = named n
+opcode_of (ByReg names) own m = named (name_at names (reg_field m))
+opcode_of (ByRm names) own m = named (name_at names (rm_field m))
+
+-- ---- operands
+
+-- the class of a register that is an address
+abbrev pub pointer_class : Prefixes → RegisterClass
+pointer_class p = if address_size p then class.D else class.Q
+
+abbrev pub letter_encoding : Letter → TableRow → Prefixes → ℕ → OperandEncoding
+letter_encoding (letter.E w) own p m = encoding.E (class_of w p)
+letter_encoding (letter.G w) own p m = encoding.G (class_of w p)
+letter_encoding (letter.U w) own p m = encoding.U (class_of w p)
+letter_encoding letter.M own p m = encoding.M
+letter_encoding letter.Gmm own p m = encoding.Gmm
+letter_encoding letter.Emm own p m = encoding.Emm
+letter_encoding letter.Umm own p m = encoding.Umm
+letter_encoding letter.Cr own p m = encoding.G class.CR
+letter_encoding letter.Dr own p m = encoding.G class.DR
+letter_encoding letter.Sr own p m = encoding.G class.S
+letter_encoding (letter.Z at w) own p m = encoding.Fixed at (register_at (carried own.form) (class_of w p) p)
+letter_encoding (letter.A w) own p m = accumulator_of (class_of w p) p
+letter_encoding (letter.Last last) own p m = last_encoding last p
+letter_encoding letter.X8 own p m = encoding.X8
+letter_encoding letter.X16 own p m = encoding.X16
+letter_encoding letter.Jv own p m = if operand_size p && not (has_w p) then encoding.I32From16 else encoding.I32
+letter_encoding letter.Offset own p m = if address_size p then encoding.Address32 else encoding.Address64
+letter_encoding letter.Source own p m = encoding.Pointer pointer.Deref (reg_spec 6 (pointer_class p))
+letter_encoding letter.Destination own p m = encoding.Pointer pointer.Deref (reg_spec 7 (pointer_class p))
+letter_encoding (letter.Implied at n c) own p m = encoding.Fixed at (reg_spec n c)
+letter_encoding (letter.At at n c) own p m = encoding.Pointer at (reg_spec n c)
+letter_encoding letter.StRm own p m = encoding.Fixed slot.Rm (reg_spec (rm_field m) class.ST)
+letter_encoding letter.RdInReg own p m = encoding.Fixed slot.Reg (reg_spec (rm_number m p) class.D)
+
+abbrev pub operand_encodings : Letters → TableRow → Prefixes → ℕ → OperandEncodings
+operand_encodings letters.Zero own p m = coded.Zero
+operand_encodings (letters.One a) own p m = coded.One (letter_encoding a own p m)
+operand_encodings (letters.Two a b) own p m = coded.Two (letter_encoding a own p m) (letter_encoding b own p m)
+operand_encodings (letters.Three a b c) own p m = coded.Three (letter_encoding a own p m) (letter_encoding b own p m) (letter_encoding c own p m)
+operand_encodings (letters.Four a b c d) own p m = coded.Four (letter_encoding a own p m) (letter_encoding b own p m) (letter_encoding c own p m) (letter_encoding d own p m)
+
+-- the bytes of a size; a far pointer has a selector of 2 bytes, and an offset of v
+abbrev pub row_bytes : RowSize → ℕ → Prefixes → ℕ
+row_bytes (Bytes n) opcode p = n
+row_bytes (Of w) opcode p = width_of (class_of w p)
+row_bytes (Named size) opcode p = size_bytes size opcode p
+row_bytes FarPointer opcode p = 2 + width_of (v_class p)
+
+-- ---- the plan of a row
+
+abbrev pub verdict_of : Names → Verdict
+verdict_of BySuffix = verdict.NamedBySuffix
+verdict_of names = verdict.Accepts
+
+-- what a row has at a ModRM byte
+abbrev pub plan_of_row : Content → TableRow → Prefixes → ℕ → Plan
+plan_of_row (Reads names operands memory register change) own p m = record {
+  opcode = opcode_of names own m;
+  encodings = operand_encodings operands own p m;
+  size = if is_memory m then row_bytes memory own.opcode p else row_bytes register own.opcode p;
+  change = change;
+  verdict = verdict_of names;
+}
+plan_of_row (Refuses operands fault moment) own p m = record {
+  opcode = Invalid;
+  encodings = operand_encodings operands own p m;
+  size = 0;
+  change = Keeps;
+  verdict = verdict.Refuses fault moment;
+}

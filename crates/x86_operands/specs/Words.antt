@@ -1,0 +1,158 @@
+-- The words that rows are written in.
+use Rattle.std.specs.Prelude.{ℕ, List, [], ◌∷◌}
+use Rattle.x86_regs.specs.declared.RegisterClass.TheVariants as class
+use Rattle.x86_fields.specs.MemorySizes.{undecided_size}
+use Rattle.x86_fields.specs.declared.sizes.Width.TheVariants.{V, Dq}
+use Rattle.x86_operands.specs.Vocabulary.{Fault, Moment, BadOperand, AtModRM, AfterAddress, PrefixChange, Keeps, Size}
+use Rattle.x86_operands.specs.RowVocabulary.{Bare, Bytes, ByReg, ByRm, Either, FormRow, Letter, Letters, Memory, Name, Named, Names, Of, Own, Place, Reads, Refuses, Reg, Register, Rm, RowSize, When, Where}
+use Rattle.x86_operands.specs.declared.plans.RegisterSlot.TheVariants as slot
+use Rattle.x86_operands.specs.declared.letters.Letter.TheVariants as letter
+use Rattle.x86_operands.specs.declared.letters.Letters.TheVariants as letters
+use Rattle.x86_operands.specs.declared.rows.When.TheVariants.{Always, RexW, With66}
+use Rattle.x86_operands.specs.declared.rows.Reg.TheVariants as regs
+use Rattle.x86_operands.specs.declared.rows.Rm.TheVariants as rms
+
+-- ---- where
+
+abbrev pub at : Place → Reg → Rm → Where
+at place reg rm = record { place = place; reg = reg; rm = rm }
+
+-- without a ModRM byte
+abbrev pub bare : Where
+bare = at Bare regs.Any rms.Any
+
+-- the memory forms, the register forms, and both, at every reg
+abbrev pub mem : Where
+mem = at Memory regs.Any rms.Any
+
+abbrev pub reg : Where
+reg = at Register regs.Any rms.Any
+
+abbrev pub both : Where
+both = at Either regs.Any rms.Any
+
+-- at one reg, and from one reg to another
+abbrev pub mem_at : ℕ → Where
+mem_at n = at Memory (regs.Is n) rms.Any
+
+abbrev pub reg_at : ℕ → Where
+reg_at n = at Register (regs.Is n) rms.Any
+
+abbrev pub both_at : ℕ → Where
+both_at n = at Either (regs.Is n) rms.Any
+
+abbrev pub reg_from : ℕ → ℕ → Where
+reg_from first last = at Register (regs.From first last) rms.Any
+
+abbrev pub both_from : ℕ → ℕ → Where
+both_from first last = at Either (regs.From first last) rms.Any
+
+-- At one reg and one rm, at every reg and one rm, and at rm 0, where unless the choice is strict any other is as good.
+abbrev pub reg_rm : ℕ → ℕ → Where
+reg_rm n rm = at Register (regs.Is n) (rms.Is rm)
+
+abbrev pub rm_at : ℕ → Where
+rm_at rm = at Register regs.Any (rms.Is rm)
+
+abbrev pub strict_rm : Where
+strict_rm = at Register regs.Any rms.ZeroIfStrict
+
+-- ---- names
+
+abbrev pub by_reg : ℕ → ℕ → ℕ → ℕ → ℕ → ℕ → ℕ → ℕ → Names
+by_reg a b c d e f g h = ByReg (a ∷ b ∷ c ∷ d ∷ e ∷ f ∷ g ∷ h ∷ [])
+
+abbrev pub by_rm : ℕ → ℕ → ℕ → ℕ → ℕ → ℕ → ℕ → ℕ → Names
+by_rm a b c d e f g h = ByRm (a ∷ b ∷ c ∷ d ∷ e ∷ f ∷ g ∷ h ∷ [])
+
+-- ---- operands
+
+-- registers that the name implies, in the slot of reg
+abbrev pub cl : Letter
+cl = letter.Implied slot.Reg 1 class.B
+
+abbrev pub rax : Letter
+rax = letter.Implied slot.Reg 0 class.Q
+
+abbrev pub eax : Letter
+eax = letter.Implied slot.Reg 0 class.D
+
+abbrev pub ecx : Letter
+ecx = letter.Implied slot.Reg 1 class.D
+
+abbrev pub st0 : Letter
+st0 = letter.Implied slot.Reg 0 class.ST
+
+-- and in the other slots
+abbrev pub ecx_in_rm : Letter
+ecx_in_rm = letter.Implied slot.Rm 1 class.D
+
+abbrev pub edx_in_rm : Letter
+edx_in_rm = letter.Implied slot.Rm 2 class.D
+
+abbrev pub ecx_third : Letter
+ecx_third = letter.Implied slot.Third 1 class.D
+
+-- ---- memory sizes, in the memory form and in the register form
+
+-- The same in both forms: so many bytes, one that the processor decides, that of v and of dq, and that of the operation.
+abbrev pub size : ℕ → RowSize × RowSize
+size n = (Bytes n, Bytes n)
+
+abbrev pub undecided : RowSize × RowSize
+undecided = size undecided_size
+
+abbrev pub size_v : RowSize × RowSize
+size_v = (Of V, Of V)
+
+abbrev pub size_dq : RowSize × RowSize
+size_dq = (Of Dq, Of Dq)
+
+abbrev pub by_name : Size → RowSize × RowSize
+by_name s = (Named s, Named s)
+
+-- a size in the memory form, and that of v in the register form
+abbrev pub or_v : RowSize → RowSize × RowSize
+or_v s = (s, Of V)
+
+-- ---- rows
+
+-- a row that is read, and the change of the answer's prefixes: where, the prefixes, the name, the operands and the size
+abbrev pub changing : PrefixChange → Where → When → Names → Letters → RowSize × RowSize → FormRow
+changing change at when names operands size = record { at = at; when = when; content = Reads names operands size.0 size.1 change }
+
+abbrev pub read : Where → When → Names → Letters → RowSize × RowSize → FormRow
+read at when names operands size = changing Keeps at when names operands size
+
+-- A row that is refused, and after which byte; the operands are those whose bytes it has. `otherwise` is wherever no row
+-- before it is.
+abbrev pub refusing : Where → When → Letters → Fault → Moment → FormRow
+refusing at when operands fault moment = record { at = at; when = when; content = Refuses operands fault moment }
+
+abbrev pub refusal : Where → When → Fault → Moment → FormRow
+refusal at when fault moment = refusing at when letters.Zero fault moment
+
+abbrev pub otherwise : Fault → Moment → FormRow
+otherwise fault moment = refusal both Always fault moment
+
+-- ---- forms with one row that is read, whose name is that of the opcode map
+
+abbrev pub without_modrm : Letters → RowSize × RowSize → List FormRow
+without_modrm operands size = read bare Always Own operands size ∷ []
+
+abbrev pub with_modrm : Letters → RowSize × RowSize → List FormRow
+with_modrm operands size = read both Always Own operands size ∷ []
+
+-- names by W and 66, in the order of the widths: of a word, of a doubleword, of a quadword
+abbrev pub named_by_v : ℕ → ℕ → ℕ → List FormRow
+named_by_v word double quad =
+    read bare RexW (Name quad) letters.Zero (size 0) ∷
+    read bare With66 (Name word) letters.Zero (size 0) ∷
+    read bare Always (Name double) letters.Zero (size 0) ∷ []
+
+-- a register form is refused after ModRM, and a memory form after its address
+abbrev pub with_memory : Letters → RowSize × RowSize → List FormRow
+with_memory operands size = read mem Always Own operands size ∷ refusing both Always operands BadOperand AtModRM ∷ []
+
+abbrev pub with_register : Letters → RowSize × RowSize → List FormRow
+with_register operands size = read reg Always Own operands size ∷ refusing both Always operands BadOperand AfterAddress ∷ []

@@ -1,0 +1,334 @@
+"""The rows of forms, as specs/Rows.antt of x86_operands and of x86_groups have them: for tools/tables.py, which writes their tables.
+
+It also says with the row what the proof doesn't: a row that is never reached, and a form whose rows leave a gap.
+"""
+
+import functools
+import re
+import sys
+import textwrap
+from dataclasses import dataclass
+from itertools import product
+from pathlib import Path
+
+CRATES = Path(__file__).resolve().parent.parent / "crates"
+UNDECIDED = 63  # the size that means one that the processor decides
+# the function from a form to its rows, and the crate that has it
+PLAIN, GROUPS = "form_rows", "group_rows"
+CRATE_OF = {PLAIN: "x86_operands", GROUPS: "x86_groups"}
+# where a row is: the form of ModRM, reg and rm, with the numbers that follow the word
+WHERE = {
+    "bare": ("Bare", "Any", "Any"),
+    "mem": ("Memory", "Any", "Any"),
+    "reg": ("Register", "Any", "Any"),
+    "both": ("Either", "Any", "Any"),
+    "mem_at": ("Memory", "Is({0})", "Any"),
+    "reg_at": ("Register", "Is({0})", "Any"),
+    "both_at": ("Either", "Is({0})", "Any"),
+    "reg_from": ("Register", "From({0}, {1})", "Any"),
+    "both_from": ("Either", "From({0}, {1})", "Any"),
+    "reg_rm": ("Register", "Is({0})", "Is({1})"),
+    "rm_at": ("Register", "Any", "Is({0})"),
+    "strict_rm": ("Register", "Any", "ZeroIfStrict"),
+}
+# the marks that a row needs, and those that it is without: prefixes, and register 0 of the opcode byte
+WHEN = {
+    "Always": ((), ()),
+    "NoPrefix": ((), ("66", "F2", "F3")),
+    "NoRepeat": ((), ("F2", "F3")),
+    "Only66": (("66",), ("F2", "F3")),
+    "F2": (("F2",), ()),
+    "F3": (("F3",), ()),
+    "With66": (("66",), ()),
+    "With67": (("67",), ()),
+    "F3With66": (("F3", "66"), ()),
+    "RexW": (("W",), ()),
+    "RexR": (("R",), ()),
+    "Register0": (("register 0",), ()),
+}
+KINDS = ("read", "changing", "refusing")
+# the words for a form whose rows are one that is read, and one that is refused after a byte where there is another
+WHOLE = {
+    "without_modrm": ("bare", None),
+    "with_modrm": ("both", None),
+    "with_memory": ("mem", "AtModRM"),
+    "with_register": ("reg", "AfterAddress"),
+}
+# the words of a letter's definition, and their types
+TYPE_OF = {"last": "Last", "slot": "RegisterSlot", "pointer": "PointerSlot", "class": "RegisterClass"}
+# where a table's names are: the types, and the enums whose variants it has
+TYPES = {"letters": ["Letter"], "plans": ["PointerSlot", "RegisterSlot"], "rows": ["FormRow", "Reg", "Rm"], "": ["Last", "Size"]}
+ENUMS = {"letters": ["Letter", "Letters", "RowSize"], "rows": ["Names", "When"]}
+
+
+@dataclass
+class Row:
+    text: str
+    place: str
+    reg: str
+    rm: str
+    when: object  # a word, or Opcode with a name
+    operands: object
+    names: object = None  # of a row that is read, as are the two sizes
+    sizes: tuple = None
+    change: str = None  # of the answer's prefixes
+    error: str = None  # of a row that is refused: the fault and its moment
+
+    def marks(self):
+        """The marks that the row needs, and those that it is without."""
+        return WHEN[self.when] if isinstance(self.when, str) else ((f"opcode.{self.when[1]}",), ())
+
+    def is_at(self, reg):
+        first, *last = numbers_in(self.reg) or [0, 7]
+        return first <= reg <= (last or [first])[0]
+
+    def is_named(self, reg, rm):
+        if self.names is None or isinstance(self.names, str):
+            return True
+        word, *names = self.names
+        return {"Name": True, "by_reg": names[reg % len(names)] != "none", "by_rm": names[rm % len(names)] != "none"}[word]
+
+    def holds(self, memory, reg, rm, strict, marks):
+        placed = {"Memory": memory, "Register": not memory}.get(self.place, True)
+        fits = {"Any": True, "ZeroIfStrict": rm == 0 or not strict}.get(self.rm, numbers_in(self.rm) == [rm])
+        needs, forbids = self.marks()
+        prefixed = marks.issuperset(needs) and marks.isdisjoint(forbids)
+        return placed and fits and prefixed and self.is_at(reg) and self.is_named(reg, rm)
+
+    def opcodes(self):
+        """The opcodes that the row names."""
+        named = self.names[1:] if isinstance(self.names, list) else []
+        return [name for name in named if name != "none"] + (self.when[1:] if isinstance(self.when, list) else [])
+
+
+def numbers_in(text):
+    return [int(number) for number in re.findall(r"\d+", text)]
+
+
+def parsed(tokens):
+    """The words of a row; those in parentheses are a list."""
+    words = []
+    while tokens:
+        token = tokens.pop(0)
+        if token == ")":
+            break
+        words.append(parsed(tokens) if token == "(" else token)
+    return words
+
+
+def where(words):
+    """The form of ModRM, reg and rm."""
+    word, *numbers = [words] if isinstance(words, str) else words
+    return [part.format(*numbers) for part in WHERE[word]]
+
+
+def size(words):
+    """A size as the table has it."""
+    word, *of = words if isinstance(words, list) else words.split()
+    return f"{word}({'Size::' if word == 'Named' else ''}{of[0]})" if of else word
+
+
+def sizes(words):
+    """The memory size in the memory form, and in the register form."""
+    if isinstance(words, str):
+        return {"size_v": ("Of(V)",) * 2, "size_dq": ("Of(Dq)",) * 2, "undecided": (f"Bytes({UNDECIDED})",) * 2}[words]
+    word, *of = words
+    if word in ("size", "by_name"):
+        return (size([{"size": "Bytes", "by_name": "Named"}[word], *of]),) * 2
+    if word == "or_v":
+        return size(of[0]), "Of(V)"
+    memory, register = " ".join(words).split(", ")
+    return size(memory), size(register)
+
+
+def row(text, words):
+    """The row of some words: where it is, the prefixes, and what it has there."""
+    kind, *words = words
+    change = words.pop(0) if kind == "changing" else None
+    if kind == "otherwise":
+        kind, words = "refusal", ["both", "Always", *words]
+    if kind == "refusal":
+        kind, words = "refusing", [*words[:2], "Zero", *words[2:]]
+    at, when, *rest = words
+    if kind not in KINDS or (when not in WHEN if isinstance(when, str) else when[0] != "Opcode"):
+        raise ValueError
+    if kind == "refusing":
+        operands, fault, moment = rest
+        return Row(text, *where(at), when, operands, error=f"{fault} {moment}")
+    names, operands, sized = rest
+    return Row(text, *where(at), when, operands, names, sizes(sized), change)
+
+
+def rows_in(text):
+    """The rows of some text: a line each, or a word for all of a form."""
+    for line in text.removesuffix("∷ []").split("∷"):
+        words = parsed(re.findall(r"[()]|[^\s()]+", line))
+        try:
+            if words[0] == "named_by_v":
+                for when, name in zip(["RexW", "With66", "Always"], [words[3], words[1], words[2]]):
+                    yield row(line.strip(), ["read", "bare", when, ["Name", name], "Zero", ["size", "0"]])
+                continue
+            if words[0] not in WHOLE:
+                yield row(line.strip(), words)
+                continue
+            at, moment = WHOLE[words[0]]
+            yield row(line.strip(), ["read", at, "Always", "Own", *words[1:]])
+            if moment:
+                yield row(line.strip(), ["refusing", "both", "Always", words[1], "BadOperand", moment])
+        except (KeyError, IndexError, ValueError):
+            sys.exit(f"tables.py: not read: {line.strip()}")
+
+
+@functools.cache
+def rows_of(function):
+    """The rows of each form, and under `f` those of a form that has no line, each checked."""
+    text = (CRATES / CRATE_OF[function] / "specs" / "Rows.antt").read_text()
+    text = re.sub(r"^ *--.*\n", "", text, flags=re.M)
+    found = re.findall(rf"^{function} (?:\(?form\.(\w+)(?: n\))?|f) =((?:[^\n]*\n)(?: .*\n)*)", text, re.M)
+    return {form or "f": checked(function, form, [*rows_in(body.strip())]) for form, body in found}
+
+
+def name_of(form):
+    return re.sub(r"^(ModRM_0x|x87_)", "", form)
+
+
+def states(rows):
+    """The sets of marks that rows distinguish: of F2 and F3 one counts, and there is one opcode."""
+    marks = sorted({mark for each in rows for part in each.marks() for mark in part})
+    for bits in product([False, True], repeat=len(marks)):
+        here = {mark for mark, bit in zip(marks, bits) if bit}
+        if not {"F2", "F3"} <= here and sum(mark.startswith("opcode.") for mark in here) < 2:
+            yield here
+
+
+def checked(function, form, rows):
+    """The rows of a form, if each is reached, there is always one, and all have a ModRM byte or none has."""
+    name = f"{function.removesuffix('_rows')} {name_of(form)}"
+    reached, gap = set(), False
+    for memory, reg, rm, strict, marks in product([True, False], range(8), range(8), [True, False], [*states(rows)]):
+        here = next((at for at, each in enumerate(rows) if each.holds(memory, reg, rm, strict, marks)), None)
+        reached.add(here)
+        gap = gap or here is None
+    for at, each in enumerate(rows):
+        if at not in reached:
+            sys.exit(f"tables.py: {name}: never reached: {each.text}")
+    if gap:
+        sys.exit(f"tables.py: {name} leaves a gap: end it with `otherwise`")
+    if len({each.place == "Bare" for each in rows}) > 1:
+        sys.exit(f"tables.py: {name} has rows with ModRM and rows without")
+    return rows
+
+
+@functools.cache
+def letters():
+    """The words for one letter, each with what it stands for."""
+    text = (CRATES / "x86_operands" / "specs" / "Words.antt").read_text()
+    lasts = variants("x86_operands/src/encodings.rt", "Last") - {"Cl"}  # which is a register that the name implies
+    answer = {last: f"Letter::Last(Last::{last})" for last in sorted(lasts)}
+    for word, letter, of in re.findall(r"^(\w+) = letter\.(\w+) (.+)$", text, re.M):
+        parts = [re.sub(r"(\w+)\.", lambda kind: f"{TYPE_OF[kind[1]]}::", part) for part in of.split()]
+        answer[word] = f"Letter::{letter}({', '.join(parts)})"
+    return answer
+
+
+def constant(word):
+    """The constant of a word for one letter."""
+    return re.sub(r"(?<=[a-z])(?=[A-Z])", "_", word).upper()
+
+
+def letter(words):
+    """A letter as the table has it."""
+    if isinstance(words, str):
+        return constant(words) if words in letters() else words
+    word, *of = words
+    if word == "Last":
+        return constant(of[0].removeprefix("last."))
+    slot = {"Z": "RegisterSlot::", "Implied": "RegisterSlot::", "At": "PointerSlot::"}.get(word, "")
+    return f"{word}({slot}{', '.join(of)})".replace("class.", "RegisterClass::")
+
+
+def names(words, numbers):
+    if isinstance(words, str):
+        return words
+    listed = ", ".join("0" if name == "none" else str(numbers[name]) for name in words[1:])
+    return {"Name": f"Name({listed})", "by_reg": f"ByReg([{listed}])", "by_rm": f"ByRm([{listed}])"}[words[0]]
+
+
+def entry(each, numbers):
+    """A row as the table has it."""
+    when = each.when if isinstance(each.when, str) else f"Opcode({numbers[each.when[1]]})"
+    at = f"{each.place} Reg::{each.reg}, Rm::{each.rm}; {when}"
+    operands = each.operands
+    operands = operands if isinstance(operands, str) else f"{operands[0]}({', '.join(map(letter, operands[1:]))})"
+    if each.error:
+        return f"refusal!({at}; {operands}; {each.error})"
+    change = f"; {each.change}" if each.change else ""
+    return f"read!({at}; {names(each.names, numbers)}; {operands}; {'; '.join(each.sizes)}{change})"
+
+
+def array(name, entries):
+    return ["", f"const {name}: &[FormRow; {len(entries)}] = &[", *(f"    {each}," for each in entries), "];"]
+
+
+def in_order(words):
+    """The key by which imports are sorted: numbers in a word count as numbers."""
+    return [re.sub(r"\d+", lambda number: number[0].zfill(3), word) for word in words]
+
+
+def use_lines(uses):
+    """The imports of the names of each path."""
+    for path in sorted(uses, key=lambda path: in_order([*path.split("::"), "{" if len(uses[path]) > 1 else min(uses[path])])):
+        listed = ", ".join(sorted(uses[path], key=lambda name: in_order([name])))
+        line = f"use {path}::{{{listed}}};" if len(uses[path]) > 1 else f"use {path}::{listed};"
+        if len(line) <= 100:
+            yield line
+        else:
+            yield from [f"use {path}::{{", *textwrap.wrap(f"{listed},", 100, initial_indent="    ", subsequent_indent="    "), "};"]
+
+
+def variants(path, name):
+    body = re.search(rf"^pub enum {name} \{{\n(.*?)^\}}", (CRATES / path).read_text(), re.M | re.S)[1]
+    return {*re.findall(r"^    (\w+)", body, re.M)}
+
+
+def imports(crate, constants, entries, others):
+    """The imports of a table: what its constants and its rows name, and others."""
+    of = {path: {*listed} for path, listed in others.items()}
+    typed = {"FormRow", *re.findall(r"(?<![\w:])(\w+)::", "\n".join([*constants, *entries]))}
+    typed.update(["Letter"] if constants else [])
+    named = {*re.findall(r"(?<![\w:])\w+", "\n".join(entries))}
+    found = [(f"{crate}::{path}".removesuffix("::"), typed.intersection(types)) for path, types in TYPES.items()]
+    found += [("x86_regs", typed & {"RegisterClass"}), ("x86_fields::Width", named & variants("x86_fields/src/sizes.rt", "Width"))]
+    for path, enums in ENUMS.items():
+        source = f"x86_operands/src/{path}.rt"
+        found += [(f"{crate}::{path}::{enum}", named & variants(source, enum)) for enum in enums]
+    for path, here in found:
+        if here:
+            of[path] = of.get(path, set()) | here
+    return [*use_lines(of)]
+
+
+def lookup(function, forms):
+    """The function from a form to its rows."""
+    yield from ["", "/// The rows of a form.", f"#[tactic(auto, unfolding(crate::specs::Rows::{function}))]"]
+    yield from [f"pub(crate) fn {function}(form: Form) -> &'static [FormRow]", f"    ensures {{ result.now ≡ {function} form }}", "{"]
+    named = [(form, "(_)" if forms[form] else "") for form in rows_of(function) if form != "f"]
+    yield from ["    match form {", *(f"        Form::{form}{number} => ROWS_{name_of(form).upper()}," for form, number in named)]
+    left_out = [f"Form::{form}" for form in forms if form not in dict(named)] if function == PLAIN else ["_"]
+    yield from [*(f"        {form} => LEFT_OUT," for form in left_out), "    }", "}"]
+
+
+def table(function, forms, numbers, others, between=()):
+    """The lines of a table of rows from the imports on, for the forms that the function has rows of."""
+    every = {form: [entry(each, numbers) for each in rows] for form, rows in rows_of(function).items()}
+    left_out = every.pop("f")
+    entries = [each for rows in every.values() for each in rows]
+    used = {name for each in entries for name in re.findall(r"(?<![\w:])\w+", each.split(";", 2)[2])}
+    constants = [f"const {constant(word)}: Letter = {of};" for word, of in letters().items() if constant(word) in used]
+    crate = CRATE_OF[function]
+    lines = ["ghost use Rattle.std.specs.Prelude.{◌≡◌};", f"ghost use Rattle.{crate}.specs.Rows.{{{function}}};", ""]
+    lines += imports("crate" if function == PLAIN else "x86_operands", constants, [*entries, *left_out], {"x86_forms": ["Form"], **others})
+    lines += [line for each in constants for line in ("", each)]
+    lines += [line for form, rows in every.items() for line in array(f"ROWS_{name_of(form).upper()}", rows)]
+    lines += [*between, "", "/// The rows of a form that has none.", *array("LEFT_OUT", left_out)[1:]]
+    return lines + [*lookup(function, forms)]
