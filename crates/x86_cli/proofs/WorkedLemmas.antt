@@ -20,7 +20,8 @@ use Rattle.x86_operands.specs.declared.plans.OperandEncoding.{OperandEncoding}
 use Rattle.x86_operands.specs.declared.plans.Verdict.TheVariants.{Accepts}
 use Rattle.x86_operands.specs.declared.plans.ModrmUse.TheVariants.{EitherForm}
 use Rattle.x86_operands.specs.Asks.{immediate_width}
-use Rattle.x86_operands.specs.Forms.{form_record}
+use Rattle.x86_operands.specs.Forms.{form_plan, form_record, modrm_use}
+use Rattle.x86_operands.specs.Rows.{form_rows}
 use Rattle.x86_operands.specs.Pieces.{SpellsOperands, SpellsMemory, operand_from}
 use Rattle.x86_operands.specs.Plans.{list_of}
 use Rattle.x86_operands.specs.PlanSteps.{four_of, reading_from}
@@ -96,14 +97,14 @@ at_register m = record { rex_b = false; rex_x = false; address_size = false; mod
 module _ (strict : Bool) (h : Headline strict) where
   -- the run 48, no escape, the opcode byte 01 and its row, ModRM d8, and nothing after it
   pub add_sentence : Sentence strict (0x48 ∷ 0x01 ∷ 0xd8 ∷ []) (instruction_of add_rax_rbx 3)
-  unfolding form_record printed_row
+  unfolding form_record form_plan form_rows modrm_use printed_row
   add_sentence =
       let w = whole_of strict (0x48 ∷ []) One 0x01 (record { opcode = ADD; form = Ev_Gv }) 0xd8 [] None refl refl (h.rows One Plain 0x01) refl refl refl refl (refl, refl) in
       record { reading = add_rax_rbx; whole = w; lock = refl; short = omega arith; yields = refl }
 
   -- the run 48, no escape, the opcode byte 8b and its row, ModRM 45, and a displacement of one byte
   pub load_sentence : Sentence strict (0x48 ∷ 0x8b ∷ 0x45 ∷ 0x00 ∷ []) (instruction_of mov_rax_at_rbp 4)
-  unfolding form_record printed_row shape
+  unfolding form_record form_plan form_rows modrm_use printed_row shape
   load_sentence =
       let w = whole_of strict (0x48 ∷ []) One 0x8b (record { opcode = MOV; form = Gv_Ev }) 0x45 (0x00 ∷ []) (Some (at_register 0x45)) refl refl (h.rows One Plain 0x8b) refl refl refl refl
       (refl, record { sib = None; disp = 0x00 ∷ []; spelled = refl; sib_present = refl; disp_length = refl; fields = refl }) in
@@ -118,7 +119,7 @@ module _ (strict : Bool) (h : Headline strict) where
 
   -- the run f0 48, no escape, the opcode byte 01 and its row, ModRM 03, and nothing after it
   pub locked_add_sentence : Sentence strict (0xf0 ∷ 0x48 ∷ 0x01 ∷ 0x03 ∷ []) (instruction_of add_at_rbx_rax 4)
-  unfolding form_record printed_row shape
+  unfolding form_record form_plan form_rows modrm_use printed_row shape
   locked_add_sentence =
       let w = whole_of strict (0xf0 ∷ 0x48 ∷ []) One 0x01 (record { opcode = ADD; form = Ev_Gv }) 0x03 [] (Some (at_register 0x03)) refl refl (h.rows One Plain 0x01) refl refl refl refl
       (refl, record { sib = None; disp = []; spelled = refl; sib_present = refl; disp_length = refl; fields = refl }) in
@@ -126,7 +127,7 @@ module _ (strict : Bool) (h : Headline strict) where
 
   -- the run 66, the escape 0f 38, the opcode byte 00 and its row, ModRM c1, and nothing after it
   pub chosen_by_66_sentence : Sentence strict (0x66 ∷ 0x0f ∷ 0x38 ∷ 0x00 ∷ 0xc1 ∷ []) (instruction_of pshufb_xmm0_xmm1 5)
-  unfolding form_record printed_row
+  unfolding form_record form_plan form_rows modrm_use printed_row
   chosen_by_66_sentence =
       let w = whole_of strict (0x66 ∷ []) Of38 0x00 (record { opcode = PSHUFB; form = G_E_xmm }) 0xc1 [] None refl refl (h.rows Of38 P66 0x00) refl refl refl refl (refl, refl) in
       record { reading = pshufb_xmm0_xmm1; whole = w; lock = refl; short = omega arith; yields = refl }
@@ -138,7 +139,7 @@ module _ (strict : Bool) (h : Headline strict) where
 
   -- the run f0, no escape, the opcode byte 01 and its row, ModRM d8, and nothing after it: F0 before an operation that takes it, whose first slot is a register
   pub forbidden_lock_decides : Decides (rows_of packed) strict (0xf0 ∷ 0x01 ∷ 0xd8 ∷ []) InvalidPrefixes
-  unfolding form_record printed_row
+  unfolding form_record form_plan form_rows modrm_use printed_row
   forbidden_lock_decides =
       let w = whole_of strict (0xf0 ∷ []) One 0x01 (record { opcode = ADD; form = Ev_Gv }) 0xd8 [] None refl refl (h.rows One Plain 0x01) refl refl refl refl (refl, refl) in
       by_bytes (case_4 (record { reading = add_eax_ebx; whole = w; short = omega arith; locked = refl }))
