@@ -292,7 +292,7 @@ def written():
         FORMS / "src" / "ordinals.rt": ordinals_rt(),
         FORMS / "src" / "tables.rt": tables_rt(),
         OPERANDS / "src" / "lines.rt": form_lines_rt(),
-        OPERANDS / "src" / "form_rows.rt": rows_rt("the plain forms", form_rows.PLAIN, {}),
+        OPERANDS / "src" / "tables.rt": rows_rt("the plain forms", form_rows.PLAIN, {}),
         GROUPS / "src" / "tables.rt": group_tables_rt(),
         TEXT / "src" / "mnemonics.rt": mnemonics_rt(),
         TEXT / "src" / "registers.rt": registers_rt(),

@@ -6,7 +6,7 @@ use Rattle.std.proofs.lemmas.Bool.{ltb-true}
 use Rattle.std.proofs.lemmas.List.{get_or-drop}
 use Rattle.std.proofs.lemmas.List.Elements.{All-get_or}
 use Rattle.std.proofs.lemmas.List.Sums.{AllPass-from_list_all}
-use Rattle.x86_operands.specs.Vocabulary.{Form, Prefixes, AfterOpcode, FormEncoding, Width, is_memory}
+use Rattle.x86_operands.specs.Vocabulary.{Form, Plan, Prefixes, AfterOpcode, FormEncoding, Width, is_memory}
 use Rattle.x86_forms.specs.declared.Form.TheVariants as form
 use Rattle.x86_forms.specs.Ordinals.{first_ordinal_of, ordinal_of}
 use Rattle.x86_forms.specs.Words.{IsForm, carried}
@@ -30,26 +30,25 @@ pub record IsLine (e : FormEncoding) (f : Form) : Type 0 where
 abbrev line_of : Form → FormEncoding → FormEncoding
 line_of f d = get_or ENCODINGS.now (first_ordinal_of f + 1) d
 
--- in the memory form, or in the register form, a line says what the form's rows say
-abbrev SaysAt : Bool → FormEncoding → Form → Type 0
-SaysAt memory e f = IsTrue (is_described e.after_opcode) → (o m : ℕ) (p : Prefixes) → is_memory m ≡ memory → plan_of e (carried f) o p m ≡ form_plan (row_with o f) p m
+-- the plan of a form by its line, where the line describes it
+abbrev said : FormEncoding → Form → ℕ → Prefixes → ℕ → Plan
+said e f o p m = if is_described e.after_opcode then plan_of e (carried f) o p m else form_plan (row_with o f) p m
 
-says_in_memory : (f : Form) (d : FormEncoding) → SaysAt true (line_of f d) f
-unfolding form_rows form_plan
-says_in_memory (form.Zv_R n) d is o m p e = rw e refl
-says_in_memory f d is o m p e = first_of (cc (e), grind (arith, e))
+-- is_memory, held in both of its cases
+abbrev tested : Bool → ℕ → Bool
+tested true m = is_memory m
+tested false m = is_memory m
 
-says_in_register : (f : Form) (d : FormEncoding) → SaysAt false (line_of f d) f
+-- in the memory form and in the register form, a line says what the form's rows say
+says : (f : Form) (d : FormEncoding) (memory : Bool) (o m : ℕ) (p : Prefixes) → is_memory m ≡ memory → ◌≡◌ {A = Bool × Plan} (tested (is_memory m) m, said (line_of f d) f o p m) (tested (is_memory m) m, form_plan (row_with o f) p m)
 unfolding form_rows form_plan
-says_in_register (form.Zv_R n) d is o m p e = rw e refl
-says_in_register f d is o m p e = first_of (cc (e), grind (arith, e))
+says (form.Zv_R n) d true o m p e = rw e (rw e refl)
+says form.PMOVX_G_E_xmm d memory o m p e = grind (arith, e)
+says f d true o m p e = rw e (rw e refl)
+says f d false o m p e = rw e (rw e refl)
 
 describes : (f : Form) (d : FormEncoding) → Describes (line_of f d) f
-describes f d is o m p = by (is_memory m) refl
-  where
-    by : (memory : Bool) → is_memory m ≡ memory → plan_of (line_of f d) (carried f) o p m ≡ form_plan (row_with o f) p m
-    by true e = says_in_memory f d is o m p e
-    by false e = says_in_register f d is o m p e
+describes f d is o m p = rw is at (ap (λ x. x.1) (says f d (is_memory m) o m p refl))
 
 abbrev pub IsLineAt : ℕ → Form → Type 0
 IsLineAt n f = (d : FormEncoding) → IsLine (get_or ENCODINGS.now n d) f

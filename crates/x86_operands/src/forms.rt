@@ -9,10 +9,10 @@ ghost use Rattle.x86_operands.specs.Forms.{form_plan, form_record};
 ghost use Rattle.x86_operands.specs.PlanSteps.{record_step};
 
 use crate::form_encodings::form_encoding;
-use crate::form_rows::form_rows;
 use crate::plans::Plan;
 use crate::reader::{Reading, read_modrm, read_plan};
 use crate::rows::choose;
+use crate::tables::form_rows;
 use crate::{Ask, plan_ask, used_modrm};
 use x86_arch::Reader;
 use x86_fields::{DecodeError, ModRM, Prefixes};
