@@ -16,8 +16,6 @@ use Rattle.x86_opcodes.specs.declared.Opcode.{Opcode}
 use Rattle.x86_operands.specs.declared.rows.Rm.TheVariants as rms
 use Rattle.x86_operands.specs.declared.rows.When.TheVariants as when
 
--- ---- the first row that is there
-
 -- ---- what each row has, the first has
 
 if_has : (P : Content → Type 0) (b : Bool) (x y : Content) → (b ≡ true → P x) → P y → P (if b then x else y)

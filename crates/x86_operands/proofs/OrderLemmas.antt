@@ -1,7 +1,8 @@
 -- The orders of a sound line, and what follows where it accepts.
-use Rattle.std.proofs.Common.{◌≡◌, ℕ, Bool, true, false, not, if◌then◌else◌, IsTrue, arith, ap, ◌∙◌}
+use Rattle.std.proofs.Common.{◌≡◌, ℕ, Bool, true, false, not, if◌then◌else◌, IsTrue, arith, sym, ap, ◌∙◌}
 use Rattle.std.proofs.lemmas.Bool.{eqb-true}
 use Rattle.x86_operands.specs.Vocabulary.{OperandEncodings, Position, First, Second, Third, Nowhere, Order, AfterOpcode, FormEncoding, is_memory, Prefixes, Ask, Width, ModrmUse, OperandEncoding}
+use Rattle.x86_opcodes.specs.Names.{Invalid}
 use Rattle.x86_operands.specs.Plans.{reads}
 use Rattle.x86_operands.specs.Encodings.{restricted_plan, has_last, is_described, is_sound, is_order_of, is_order, has_modrm, has_register, order_fits, allows, size_bytes, last_encoding, plan_of, reg_encoding, rm_encoding, encodings_in, size_at, somewhere, use_of}
 use Rattle.x86_operands.specs.Asks.{uses_modrm, immediates_width, plan_ask, encoding_ask, immediate_width}
@@ -75,7 +76,10 @@ AskWith usage m n = record { modrm = uses_modrm usage; memory = is_memory m; imm
 restricted_ask : (b : AfterOpcode) (usage : ModrmUse) (m opcode size : ℕ) (encodings : OperandEncodings) → plan_ask usage m (restricted_plan b m (reads opcode encodings size)) ≡ AskWith usage m (immediates_width encodings)
 restricted_ask b usage m opcode size encodings = grind arith
 
-pub encoding_has_ask : (e : FormEncoding) (n opcode : ℕ) (p : Prefixes) (m : ℕ) → is_sound e ≡ true → plan_ask (use_of e.after_opcode) m (plan_of e n opcode p m) ≡ encoding_ask e p m
-encoding_has_ask e n opcode p m h =
+pub line_has_ask : (e : FormEncoding) (n opcode : ℕ) (p : Prefixes) (m : ℕ) → is_sound e ≡ true → plan_ask (use_of e.after_opcode) m (plan_of e n opcode p m) ≡ AskWith (use_of e.after_opcode) m (if somewhere e.order.last then immediate_width (last_encoding e.last p) else 0)
+line_has_ask e n opcode p m h =
     restricted_ask e.after_opcode (use_of e.after_opcode) m opcode (size_bytes (size_at e m) opcode p) (encodings_in e.order (reg_encoding e.after_opcode e.reg n p) (rm_encoding e.after_opcode e.rm p) (last_encoding e.last p))
     ∙ ap (AskWith (use_of e.after_opcode) m) (width_in (named_of e.order.reg e.order.rm e.order.last e.order.count (sound_parts e h).0) (reg_encoding e.after_opcode e.reg n p) (rm_encoding e.after_opcode e.rm p) (last_encoding e.last p) (reg_width e.after_opcode e.reg n p) (rm_width e.after_opcode e.rm p))
+
+pub encoding_has_ask : (e : FormEncoding) (n opcode : ℕ) (p : Prefixes) (m : ℕ) → is_sound e ≡ true → plan_ask (use_of e.after_opcode) m (plan_of e n opcode p m) ≡ encoding_ask e p m
+encoding_has_ask e n opcode p m h = line_has_ask e n opcode p m h ∙ sym (line_has_ask e 0 Invalid p m h)

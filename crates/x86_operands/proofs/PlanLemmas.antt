@@ -8,10 +8,10 @@ use Rattle.x86_fields.specs.Pieces.{SpellsRaw, EndsBetween, raw_widths, total}
 use Rattle.x86_fields.proofs.StepLemmas.{Takes, takes_pure, takes_bind, takes_err}
 use Rattle.x86_fields.proofs.EndLemmas.{EndsWell, IsEmpty, Only, ends_pure, ends_bind, ends_then, ends_map, weaken, Halts, halts_bind, halts_empty, halts_same, over, final_err, bind_assoc}
 use Rattle.x86_fields.proofs.PieceLemmas.{takes_map, ends_raw, takes_raw, halts_raw, raw_long, none_there, more_missing, more_there, FirstPiece, nothing, piece, first_piece, between_nil}
-use Rattle.x86_operands.specs.Plans.{list_of}
+use Rattle.x86_operands.specs.Plans.{is_refusal, list_of}
 use Rattle.x86_operands.specs.PlanSteps.{operands_step, filled_step, four_of, refuse_at, read_opcode, read_memory, read_plan, reading_from, error_of}
 use Rattle.x86_operands.specs.Asks.{immediate_width}
-use Rattle.x86_operands.specs.Pieces.{SpellsOperands, SpellsMemory, SpellsPieces, SpellsTail, RefusesTail, at_modrm, after_address, after_suffix, no_name, is_refusal, suffix_width, opcode_by, memory_widths, plan_widths, tail_widths}
+use Rattle.x86_operands.specs.Pieces.{SpellsOperands, SpellsMemory, SpellsPieces, SpellsTail, RefusesTail, at_modrm, after_address, after_suffix, no_name, suffix_width, opcode_by, memory_widths, plan_widths, tail_widths}
 use Rattle.x86_operands.proofs.OperandLemmas.{ends_operands, takes_operands, halts_operands}
 use Rattle.x86_operands.proofs.VerdictLemmas.{Faults, Never, refuses_at, IsVerdict, ends_verdict, takes_passed, takes_refused, halts_verdict, fault_error, IsNamed, ends_opcode, takes_opcode, takes_unnamed}
 

@@ -4,7 +4,8 @@ use Rattle.std.specs.Int.{byte_len}
 use Rattle.std.specs.Option.{option_map_or}
 use Rattle.x86_operands.specs.Vocabulary.{Prefixes, Verdict, NamedBySuffix, OperandEncodings, ModrmUse, Absent, EitherForm, Registers, Plan, Ask, RecordAt, FormEncoding, OperandEncoding, is_memory, absent_modrm, as_register}
 use Rattle.x86_fields.specs.Pieces.{total, option_bytes}
-use Rattle.x86_operands.specs.Encodings.{last_encoding, somewhere, use_of}
+use Rattle.x86_opcodes.specs.Names.{Invalid}
+use Rattle.x86_operands.specs.Encodings.{plan_of, use_of}
 use Rattle.x86_operands.specs.Plans.{RowRecord, list_of}
 use Rattle.x86_operands.specs.PlanSteps.{immediate_read}
 
@@ -47,15 +48,10 @@ plan_ask usage m plan = record {
   suffix = uses_suffix plan.verdict;
 }
 
--- what a line of the operand encodings has at a ModRM byte that is used so: its last operand alone can be an
--- immediate
+-- what a line of the operand encodings has at a ModRM byte that is used so is what its plan has there. The number of the
+-- opcode byte and the operation make no difference
 abbrev pub encoding_ask : FormEncoding → Prefixes → ℕ → Ask
-encoding_ask e p m = record {
-  modrm = uses_modrm (use_of e.after_opcode);
-  memory = is_memory m;
-  immediate = if somewhere e.order.last then immediate_width (last_encoding e.last p) else 0;
-  suffix = false;
-}
+encoding_ask e p m = plan_ask (use_of e.after_opcode) m (plan_of e 0 Invalid p m)
 
 -- what a row has at a ModRM byte
 unfoldable pub ask_of : RowRecord → ℕ → Ask

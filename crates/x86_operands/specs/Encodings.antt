@@ -1,5 +1,5 @@
 -- What a line of the operand encodings means. In a form that has sizes for named opcodes alone, any other opcode has size 0.
-use Rattle.std.specs.Prelude.{ℕ, Bool, true, false, ◌==◌, if◌then◌else◌, not, pos, ◌&&◌, [], ◌∷◌}
+use Rattle.std.specs.Prelude.{ℕ, Bool, true, false, ◌==◌, if◌then◌else◌, not, pos, ◌&&◌, ◌||◌, [], ◌∷◌}
 use Rattle.x86_regs.specs.declared.RegisterClass.TheVariants as class
 use Rattle.x86_opcodes.specs.Kinds.{is_among}
 use Rattle.x86_opcodes.specs.Names.{CALL, CMPSD, CMPSS, ROUNDSS, ROUNDSD, MOVDDUP, MOVNTSS, MOVNTPS, MOVNTPD, MOVNTDQ, PEXTRB, PEXTRW, EXTRACTPS, PINSRB, INSERTPS, PMOVSXBQ, PMOVZXBQ, PMOVSXBD, PMOVZXBD, PMOVSXWQ, PMOVZXWQ, UCOMISS, COMISS, CVTSS2SD, MOVLPD, MOVHPD, PUNPCKLBW, PUNPCKLWD, PUNPCKLDQ, RETURN, RETF, PUSHF, POPF, LEAVE, XLAT}
@@ -10,7 +10,7 @@ use Rattle.x86_operands.specs.declared.plans.RegisterSlot.TheVariants as slot
 use Rattle.x86_operands.specs.declared.encodings.AfterOpcode.TheVariants as after_opcode
 use Rattle.x86_operands.specs.declared.encodings.Last.TheVariants as last
 use Rattle.x86_operands.specs.declared.encodings.Size.TheVariants as size
-use Rattle.x86_operands.specs.Plans.{reads, refused, register_at, accumulator_of}
+use Rattle.x86_operands.specs.Plans.{is_refusal, reads, refused, register_at, accumulator_of}
 use Rattle.x86_operands.specs.declared.plans.ModrmUse.TheVariants as use_as
 
 -- an immediate by the class v: of a word, of a doubleword or of a quadword
@@ -166,23 +166,16 @@ abbrev pub has_last : Order → Last → Bool
 has_last o last.Absent = not (somewhere o.last)
 has_last o l = true
 
--- the operations and ModRM bytes that a line accepts; a ModRM byte that isn't there reads as C0
+-- the operations and ModRM bytes that a line accepts: its plan doesn't refuse them. A ModRM byte that isn't there reads
+-- as C0
 abbrev pub allows : AfterOpcode → ℕ → ℕ → Bool
-allows after_opcode.EitherForm o m = true
-allows after_opcode.Memory o m = is_memory m
-allows after_opcode.FormByOpcode o m = not (lacks_memory o m)
-allows (after_opcode.ByReg g) o m = false
-allows (after_opcode.ByPlan u) o m = false
-allows after_opcode.Group o m = false
-allows b o m = not (is_memory m)
+allows b o m = is_described b && (not (is_refusal (restricted_plan b m (reads o Zero 0)).verdict) && (has_modrm b || not (is_memory m)))
 
 abbrev pub is_sound : FormEncoding → Bool
 is_sound e = is_order e.order && (order_fits e.after_opcode e.order && has_last e.order e.last)
 
 -- how a form with this encoding uses a ModRM byte
 abbrev pub use_of : AfterOpcode → ModrmUse
-use_of after_opcode.Nothing = use_as.Absent
-use_of after_opcode.Opcode = use_as.Absent
-use_of after_opcode.Accumulator = use_as.Absent
 use_of (after_opcode.ByPlan u) = u
-use_of b = use_as.EitherForm
+use_of after_opcode.Group = use_as.EitherForm
+use_of b = if has_fields b then use_as.EitherForm else use_as.Absent

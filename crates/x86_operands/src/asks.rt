@@ -1,7 +1,9 @@
 //! What a row has after its opcode byte, known from a ModRM byte alone.
-ghost use Rattle.std.specs.Prelude.{◌≡◌, ◌≤◌};
+ghost use Rattle.std.specs.Prelude.{◌≡◌, ◌≤◌, true};
 ghost use Rattle.x86_fields.specs.Pieces.{option_bytes};
-ghost use Rattle.x86_operands.specs.Asks.{immediate_width, modrm_of, encoding_ask, immediates_width, plan_ask};
+ghost use Rattle.x86_operands.specs.Asks.{immediate_width, modrm_of, encoding_ask, immediates_width, uses_modrm, uses_suffix};
+ghost use Rattle.x86_operands.specs.Encodings.{is_sound};
+ghost use Rattle.x86_operands.specs.Vocabulary.{is_memory};
 
 use crate::encodings::FormEncoding;
 use crate::order::Position;
@@ -82,7 +84,10 @@ pub fn used_modrm(usage: ModrmUse, modrm: Option<u8>) -> ModRM
 
 /// What a plan has at a ModRM byte that is used so.
 pub fn plan_ask(usage: ModrmUse, modrm: ModRM, plan: &Plan) -> Ask
-    ensures { result ≡ plan_ask usage modrm plan.now }
+    ensures modrm { result.modrm ≡ uses_modrm usage }
+    ensures memory { result.memory ≡ is_memory modrm }
+    ensures immediate { result.immediate ≡ immediates_width plan.now.encodings }
+    ensures suffix { result.suffix ≡ uses_suffix plan.now.verdict }
 {
     Ask {
         modrm: !matches!(usage, ModrmUse::Absent),
@@ -92,10 +97,11 @@ pub fn plan_ask(usage: ModrmUse, modrm: ModRM, plan: &Plan) -> Ask
     }
 }
 
-/// What a line of the operand encodings has at a ModRM byte that is used so.
+/// What a line of the operand encodings has at a ModRM byte that is used so: its last operand alone can be an immediate.
 #[inline(always)]
+#[tactic(auto, using(crate::proofs::OrderLemmas::line_has_ask))]
 pub fn encoding_ask(encoding: &FormEncoding, prefixes: &Prefixes, modrm: ModRM) -> Ask
-    ensures { result ≡ encoding_ask encoding.now prefixes.now modrm }
+    ensures { is_sound encoding.now ≡ true → result ≡ encoding_ask encoding.now prefixes.now modrm }
 {
     let immediate = match encoding.order.last {
         Position::Nowhere => 0,

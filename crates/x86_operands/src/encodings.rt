@@ -3,7 +3,7 @@
 ghost use Rattle.std.specs.Prelude.{◌≡◌, ℕ};
 ghost use Rattle.x86_operands.specs.Vocabulary.{Prefixes, is_memory};
 ghost use Rattle.x86_fields.specs.Sizes.{size_prefixes};
-ghost use Rattle.x86_operands.specs.Encodings.{size_bytes, last_encoding, use_of, is_described, allows, size_at};
+ghost use Rattle.x86_operands.specs.Encodings.{size_bytes, last_encoding, use_of, allows, size_at};
 
 use crate::form_sizes::named_size;
 use crate::order::Order;
@@ -164,17 +164,6 @@ impl Last {
 }
 
 impl AfterOpcode {
-    /// Whether a line describes the form.
-    #[inline(always)]
-    pub fn is_described(self) -> bool
-        ensures { result ≡ is_described self }
-    {
-        match self {
-            AfterOpcode::ByReg(_) | AfterOpcode::ByPlan(_) | AfterOpcode::Group => false,
-            _ => true,
-        }
-    }
-
     /// Whether a line accepts an operation at this ModRM byte; one that isn't there reads as C0.
     #[inline(always)]
     pub fn allows(self, opcode: Opcode, modrm: ModRM) -> bool

@@ -5,7 +5,7 @@ ghost use Rattle.x86_fields.specs.Steps.{outcome};
 ghost use Rattle.x86_forms.specs.Groups.{is_group};
 ghost use Rattle.x86_forms.specs.Words.{IsForm};
 ghost use Rattle.x86_operands.specs.Asks.{ask_of};
-ghost use Rattle.x86_operands.specs.Forms.{form_plan, form_record};
+ghost use Rattle.x86_operands.specs.Forms.{form_record};
 ghost use Rattle.x86_operands.specs.PlanSteps.{record_step};
 
 use crate::form_encodings::form_encoding;
@@ -19,10 +19,10 @@ use x86_fields::{DecodeError, ModRM, Prefixes};
 use x86_forms::TableRow;
 
 /// The plan of a row whose form is a plain form, at a ModRM byte.
-#[tactic(auto, unfolding(crate::specs::Forms::form_plan))]
+#[tactic(auto, unfolding(crate::specs::Forms::form_plan, crate::specs::Forms::form_record))]
 pub fn form_plan(row: &TableRow, prefixes: &Prefixes, modrm: ModRM) -> Plan
     requires { IsForm row.now.form }
-    ensures { result ≡ form_plan row.now prefixes.now modrm }
+    ensures { result ≡ (form_record row.now prefixes.now).plan modrm }
 {
     choose(form_rows(row.form), row, false, prefixes, modrm).plan(row, prefixes, modrm)
 }

@@ -1,19 +1,22 @@
 //! What holds of operands, of the records of all plain forms, and of what is read of any record, over the definitions
 //! alone.
 
-ghost use Rattle.std.specs.Prelude.{◌≡◌, ◌≢◌, ◌↔◌, ◌≤◌, ◌⊎◌, ◌++◌, ℕ, IsTrue, List, length, Some, None, true, false, Ok, Err, FitsSigned};
+ghost use Rattle.std.specs.Prelude.{◌≡◌, ◌≢◌, ◌↔◌, ◌≤◌, ◌⊎◌, ◌++◌, if◌then◌else◌, ℕ, IsTrue, List, [], ◌∷◌, map, length, Some, None, true, false, Ok, Err, FitsSigned};
 ghost use Rattle.std.specs.Int.{w32};
 ghost use Rattle.x86_arch.specs.Reader.{State, advanced};
 ghost use Rattle.x86_fields.specs.declared.errors.DecodeError.TheVariants.{ExhaustedInput, InvalidPrefixes, TooLong, IncompleteDecoder};
 ghost use Rattle.x86_fields.specs.Linear.{raw_form, value_at};
+ghost use Rattle.x86_fields.specs.Pieces.{total};
 ghost use Rattle.x86_fields.specs.Steps.{outcome};
 ghost use Rattle.x86_forms.specs.Groups.{is_group};
 ghost use Rattle.x86_operands.specs.Vocabulary.{DecodeError, Fault, Incomplete, Moment, Prefixes, Raw, Reading, Refuses, TableRow, address_size};
+ghost use Rattle.x86_operands.specs.Columns.{is_prefixed};
 ghost use Rattle.x86_operands.specs.Forms.{form_record};
 ghost use Rattle.x86_operands.specs.Operands.{operand_form, operand_address, shape};
 ghost use Rattle.x86_operands.specs.Pieces.{SpellsRow, RefusesRow, IsReadRow, IsRefusedRow, IsOpenRow, AreTied, names_modrm, encodings_of, HasShapeAt};
 ghost use Rattle.x86_operands.specs.Plans.{RowRecord};
 ghost use Rattle.x86_operands.specs.PlanSteps.{record_step, error_of};
+ghost use Rattle.x86_operands.specs.declared.rows.When.TheVariants.{NoPrefix, Only66, F2, F3};
 
 use crate::{Ask, MemoryAccessSize, Operand, Slot};
 
@@ -40,6 +43,13 @@ pub fn plain_forms_are_built()
         is_group row.form ≡ false → ((form_record row p).plan m).verdict ≢ Refuses Incomplete w }
     ensures answer { (row : TableRow) (p : Prefixes) (s : State ℕ) → is_group row.form ≡ false →
         (record_step (form_record row p) p s).answer ≢ Err IncompleteDecoder }
+{}
+
+/// Of the columns NP, 66, F2 and F3 exactly one holds under any prefixes. Source: Intel SDM volume 2, section 3.1.1.1.
+pub fn one_prefix_column_holds()
+    ensures { (own : TableRow) (p : Prefixes) →
+        total (map (λ w. if is_prefixed w own p then 1 else 0) (NoPrefix ∷ Only66 ∷ F2 ∷ F3 ∷ []))
+        ≡ 1 }
 {}
 
 /// The memory size of each plan is at most 64 bytes.

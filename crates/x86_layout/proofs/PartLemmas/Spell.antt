@@ -13,9 +13,9 @@ use Rattle.x86_operands.specs.declared.plans.OperandEncoding.{OperandEncoding}
 use Rattle.x86_operands.specs.declared.plans.Verdict.{Verdict}
 use Rattle.x86_operands.specs.declared.plans.Verdict.TheVariants.{Accepts, NamedBySuffix, Refuses}
 use Rattle.x86_operands.specs.declared.reader.Reading.{Reading}
-use Rattle.x86_operands.specs.Plans.{RowRecord, list_of}
+use Rattle.x86_operands.specs.Plans.{RowRecord, is_refusal, list_of}
 use Rattle.x86_operands.specs.Asks.{immediate_width, modrm_of, uses_modrm, uses_suffix, immediates_width, record_at}
-use Rattle.x86_operands.specs.Pieces.{operand_from, opcode_by, is_refusal, SpellsOperands, SpellsMemory, SpellsRow}
+use Rattle.x86_operands.specs.Pieces.{operand_from, opcode_by, SpellsOperands, SpellsMemory, SpellsRow}
 use Rattle.x86_operands.specs.PlanSteps.{four_of, reading_from, suffix_opcode}
 use Rattle.x86_layout.specs.declared.parts.fields.Fields as fields
 use Rattle.x86_layout.specs.Parts.Heads.{one_if}

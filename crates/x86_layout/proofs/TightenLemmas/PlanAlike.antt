@@ -13,8 +13,7 @@ use Rattle.x86_operands.specs.declared.plans.Plan.{Plan}
 use Rattle.x86_forms.specs.declared.Form.TheVariants as form
 use Rattle.x86_forms.specs.declared.TableRow.{TableRow}
 use Rattle.x86_forms.specs.Groups.{is_group}
-use Rattle.x86_operands.specs.Plans.{RowRecord, list_of}
-use Rattle.x86_operands.specs.Pieces.{is_refusal}
+use Rattle.x86_operands.specs.Plans.{RowRecord, is_refusal, list_of}
 use Rattle.x86_operands.specs.Forms.{form_plan, form_record}
 use Rattle.x86_decode.specs.Addresses.{is_modrm_encoding}
 use Rattle.x86_layout.specs.Tightening.Tighten.{bits_in}

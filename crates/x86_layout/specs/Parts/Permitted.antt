@@ -14,7 +14,7 @@ use Rattle.x86_operands.specs.declared.plans.Verdict.TheVariants.{NamedBySuffix}
 use Rattle.x86_operands.specs.declared.asks.RecordAt.{RecordAt}
 use Rattle.x86_operands.specs.declared.reader.Reading.{Reading}
 use Rattle.x86_fields.specs.ModRM.{is_memory}
-use Rattle.x86_operands.specs.Pieces.{is_refusal}
+use Rattle.x86_operands.specs.Plans.{is_refusal}
 use Rattle.x86_operands.specs.PlanSteps.{suffix_opcode, record_step}
 use Rattle.x86_operands.specs.Asks.{uses_modrm, uses_suffix, immediates_width, record_at}
 use Rattle.x86_decode.specs.Head.{is_run, column_of, is_opcode, seen_by}

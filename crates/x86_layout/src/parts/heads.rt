@@ -1,12 +1,12 @@
 //! What comes before the pieces of a row, and which pieces the row has.
 
-ghost use Rattle.std.specs.Prelude.{◌≡◌, ◌≤◌, Bool, IsTrue, length, take, drop, slice_index, IfSome};
+ghost use Rattle.std.specs.Prelude.{◌≡◌, ◌≤◌, Bool, true, IsTrue, length, take, drop, slice_index, IfSome};
 ghost use Rattle.std.specs.List.{prefix_len};
 ghost use Rattle.x86_fields.specs.declared.prefixes.Prefixes.{Prefixes};
 ghost use Rattle.x86_fields.specs.Run.{is_prefix, reading_of};
 ghost use Rattle.x86_forms.specs.Words.{rows_of, packed};
 ghost use Rattle.x86_operands.specs.Asks.{ask_of, encoding_ask, used_modrm};
-ghost use Rattle.x86_operands.specs.Encodings.{is_described, use_of};
+ghost use Rattle.x86_operands.specs.Encodings.{is_described, is_sound, use_of};
 ghost use Rattle.x86_decode.specs.Head.{column_of, escape_bytes, seen_by};
 ghost use Rattle.x86_groups.specs.Groups.{record_of};
 ghost use Rattle.x86_layout.specs.Parts.Heads.{map_of, IsHead};
@@ -100,9 +100,10 @@ pub fn escape_length(map: Map) -> usize
 /// The line of the operand encodings for a row at a ModRM byte. If it describes the row, the row has what it has.
 #[inline(always)]
 fn line_at(found: &WordRow, modrm: ModRM) -> &'static FormEncoding
-    ensures { (strict : Bool) (p : Prefixes) → IsTrue (is_described result.now.after_opcode) →
-        ask_of (record_of strict found.now.row p) modrm
+    ensures has_ask { (strict : Bool) (p : Prefixes) → IsTrue (is_described result.now.after_opcode)
+        → ask_of (record_of strict found.now.row p) modrm
         ≡ encoding_ask result.now p (used_modrm (use_of result.now.after_opcode) modrm) }
+    ensures sound { is_sound result.now ≡ true }
 {
     reg_groups_are_chosen();
     let line = word_encoding(found);
@@ -118,11 +119,14 @@ fn ask_of_row(found: &WordRow, prefixes: Prefixes, modrm: u8) -> Ask
     ensures { (strict : Bool) → result ≡ ask_of (record_of strict found.now.row prefixes) modrm }
 {
     let line = line_at(found, ModRM::new(modrm));
-    if line.after_opcode.is_described() {
-        let used = used_modrm(line.modrm_use(), Some(modrm));
-        encoding_ask(line, &prefixes, used)
-    } else {
-        row_ask(found.row, prefixes, modrm)
+    match line.after_opcode {
+        AfterOpcode::ByReg(_) | AfterOpcode::ByPlan(_) | AfterOpcode::Group => {
+            row_ask(found.row, prefixes, modrm)
+        }
+        _ => {
+            let used = used_modrm(line.modrm_use(), Some(modrm));
+            encoding_ask(line, &prefixes, used)
+        }
     }
 }
 
