@@ -11,6 +11,8 @@ from dataclasses import dataclass
 from itertools import product
 from pathlib import Path
 
+CARRIED = 8  # how many numbers a form with a field can carry
+
 CRATES = Path(__file__).resolve().parent.parent / "crates"
 UNDECIDED = 63  # the size that means one that the processor decides
 # the function from a form to its rows, and the crate that has it
@@ -308,14 +310,34 @@ def imports(crate, constants, entries, others):
     return [*use_lines(of)]
 
 
-def lookup(function, forms):
-    """The function from a form to its rows."""
-    yield from ["", "/// The rows of a form.", f"#[tactic(auto, unfolding(crate::specs::Rows::{function}))]"]
-    yield from [f"pub(crate) fn {function}(form: Form) -> &'static [FormRow]", f"    ensures {{ result.now ≡ {function} form }}", "{"]
-    named = [(form, "(_)" if forms[form] else "") for form in rows_of(function) if form != "f"]
-    yield from ["    match form {", *(f"        Form::{form}{number} => ROWS_{name_of(form).upper()}," for form, number in named)]
-    left_out = [f"Form::{form}" for form in forms if form not in dict(named)] if function == PLAIN else ["_"]
-    yield from [*(f"        {form} => LEFT_OUT," for form in left_out), "    }", "}"]
+def by_ordinal(forms, every, left_out):
+    """The function from a plain form to its rows: a table of all rows, and where those of each ordinal are."""
+    rows, spans = [f"{each}," for each in left_out], []
+    for form in forms:
+        here = every.get(form, [])
+        span = f"({len(rows)}, {len(rows) + len(here)})" if here else f"(0, {len(left_out)})"
+        spans += [f"{span}, // {form}"] * (CARRIED if forms[form] else 1)
+        rows += [f"{each}, // {form}" for each in here]
+    yield from ["", "/// The rows of all forms, after that of a form that has none."]
+    yield from [f"pub(crate) const ROWS: &[FormRow; {len(rows)}] = &[", *(f"    {row}" for row in rows), "];"]
+    yield from ["", "/// The first row of each ordinal, and the one after its last. A form that carries a number has eight ordinals."]
+    yield from [f"pub(crate) const SPANS: &[(u16, u16); {len(spans)}] = &[", *(f"    {span}" for span in spans), "];"]
+    yield from ["", "/// All rows, the first one of a form, and the one after its last.", "fn span_of(form: Form) -> (&'static [FormRow], u16, u16)"]
+    yield from ["    ensures ordered { result.1 ≤ result.2 }", "    ensures inside { result.2 ≤ length result.0.now }"]
+    yield from ["    ensures rows { take (result.2 - result.1) (drop result.1 result.0.now) ≡ form_rows form }"]
+    yield from ["{", "    let (first, end) = SPANS[form.first_ordinal() as usize];", "    (ROWS, first, end)", "}"]
+    yield from ["", "/// The rows of a form.", "pub(crate) fn form_rows(form: Form) -> &'static [FormRow]"]
+    yield from ["    ensures { result.now ≡ form_rows form }", "{", "    let (rows, first, end) = span_of(form);"]
+    yield from ["    &rows[first as usize..end as usize]", "}"]
+
+
+def by_match():
+    """The function from a group to its rows."""
+    yield from ["", "/// The rows of a form.", f"#[tactic(auto, unfolding(crate::specs::Rows::{GROUPS}))]"]
+    yield from [f"pub(crate) fn {GROUPS}(form: Form) -> &'static [FormRow]", f"    ensures {{ result.now ≡ {GROUPS} form }}", "{"]
+    named = [form for form in rows_of(GROUPS) if form != "f"]
+    yield from ["    match form {", *(f"        Form::{form} => ROWS_{name_of(form).upper()}," for form in named)]
+    yield from ["        _ => LEFT_OUT,", "    }", "}"]
 
 
 def table(function, forms, numbers, others, between=()):
@@ -326,9 +348,11 @@ def table(function, forms, numbers, others, between=()):
     used = {name for each in entries for name in re.findall(r"(?<![\w:])\w+", each.split(";", 2)[2])}
     constants = [f"const {constant(word)}: Letter = {of};" for word, of in letters().items() if constant(word) in used]
     crate = CRATE_OF[function]
-    lines = ["ghost use Rattle.std.specs.Prelude.{◌≡◌};", f"ghost use Rattle.{crate}.specs.Rows.{{{function}}};", ""]
+    prelude = "◌≡◌, ◌≤◌, ◌-◌, length, take, drop" if function == PLAIN else "◌≡◌"
+    lines = [f"ghost use Rattle.std.specs.Prelude.{{{prelude}}};", f"ghost use Rattle.{crate}.specs.Rows.{{{function}}};", ""]
     lines += imports("crate" if function == PLAIN else "x86_operands", constants, [*entries, *left_out], {"x86_forms": ["Form"], **others})
     lines += [line for each in constants for line in ("", each)]
+    if function == PLAIN:
+        return lines + [*by_ordinal(forms, every, left_out)]
     lines += [line for form, rows in every.items() for line in array(f"ROWS_{name_of(form).upper()}", rows)]
-    lines += [*between, "", "/// The rows of a form that has none.", *array("LEFT_OUT", left_out)[1:]]
-    return lines + [*lookup(function, forms)]
+    return lines + [*between, "", "/// The rows of a form that has none.", *array("LEFT_OUT", left_out)[1:], *by_match()]

@@ -18,7 +18,8 @@ only further to the right, and so is what docs/GUIDE.md prints after a command (
 Each crate of crates.txt has a README.md, of ten to thirty lines.
 
 Quoted code of the pages of `QUOTING`: each indented line that isn't a command, nor of a drawing, is a line of some file of crates/, letter
-by letter. The links of the pages of `LINKING` are to files and headings that are there (tools/theorem.py writes their code).
+by letter. The links of the pages of `LINKING` are to files and headings that are there (tools/theorem.py writes their code). Each file that
+README.md or a page of docs/ names by its crate, by tools/ or by docs/ is there, but for those of docs/CHANGES.md.
 
 Reasons of tools/compare: those of tools/judge/reasons.c are the rows of their section of docs/DIFFERENCES.md. The picture docs/speed.svg is
 what tools/chart.py draws.
@@ -59,6 +60,7 @@ CODE += [f"crates/{name}/{file}" for name in ("guide_first", "guide_listing") fo
 TESTS = ["crates/x86_vectors/src", "crates/x86_runs/src"]
 QUOTING = ["docs/ROWS.md", "docs/ENCODING.md", "docs/ARCHITECTURE.md", "CONTRIBUTING.md"]
 LINKING = ["docs/THEOREM.md", "docs/DEFINITIONS.md"]
+NAMING = [f"docs/{page.name}" for page in sorted((TOP / "docs").glob("*.md")) if page.name != "CHANGES.md"]
 TOOLS = ["objcopy", "objdump", "nm", "readelf", "xxd", "hexdump", "od", "paste", "xargs", "perl"]
 
 
@@ -281,6 +283,15 @@ def read_links(page):
     return wrong
 
 
+def read_paths(page):
+    """Looks for the files that a page names by their crate, by tools/ or by docs/, and answers how many aren't there."""
+    named = re.findall(r"\b((?:x86\w*|guide_\w+)/(?:src|specs|proofs|must-fail)/[\w./-]*\w|(?:tools|docs)/[\w./-]*\w)", (TOP / page).read_text())
+    missing = [path for path in dict.fromkeys(named) if not (TOP / path).exists() and not (TOP / "crates" / path).exists()]
+    for path in missing:
+        print(f"pages: {page}: no file is {path}", file=sys.stderr)
+    return len(missing)
+
+
 def read_chart():
     """Compares the picture of the figures with the page that has them, and answers whether they differ."""
     if chart.CHART.read_text() == chart.drawn():
@@ -304,6 +315,7 @@ def main():
     wrong = read_guide("docs/GUIDE.md", CODE, has_outputs=True) + read_guide("README.md", CODE) + sum(read_quotes(page) for page in QUOTING)
     wrong += sum(read_size(page) or read_guide(page, TESTS) for page in readmes)
     wrong += sum(read_links(page) for page in LINKING) + read_chart() + read_reasons("docs/DIFFERENCES.md")
+    wrong += sum(read_paths(page) for page in ["README.md", *NAMING])
     if os.access(PROGRAM, os.X_OK):
         wrong += run_examples("README.md") + sum(run_examples(page) for page in readmes if (TOP / page).exists())
         wrong += run_examples("docs/USAGE.md") + run_statuses("docs/USAGE.md") + run_texts("docs/USAGE.md")

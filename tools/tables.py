@@ -38,7 +38,6 @@ TEXT = TOP / "crates" / "x86_text"
 
 MAPS = ["One", "Of", "Of38", "Of3a"]
 COLUMNS = ["Plain", "P66", "F3", "F2"]
-CARRIED = 8  # how many numbers a form with a field can carry
 PART = 128  # how many constants a table has: a proof over a table of texts takes time by the square of its length
 NOTE = ["Written by tools/tables.py from {}.", "The proof doesn't rest on that script: a wrong entry is refused."]
 NAMED = """/// Constants, each by its number and its name. One word yields both, so a constant can't have another's name.
@@ -88,7 +87,7 @@ def ordinals():
     ordinal, answer = 0, {}
     for form, carries in forms():
         answer[form] = ordinal
-        ordinal += CARRIED if carries else 1
+        ordinal += form_rows.CARRIED if carries else 1
     return answer
 
 
@@ -194,7 +193,7 @@ def ordinals_antt():
 def ordinals_rt():
     every = []
     for form, carries in forms():
-        every += [f"Form::{form}({number})" for number in range(CARRIED)] if carries else [f"Form::{form}"]
+        every += [f"Form::{form}({number})" for number in range(form_rows.CARRIED)] if carries else [f"Form::{form}"]
     lines = ["//! The forms in the order of their ordinals, each with every number that it may carry.", "//!"]
     lines += note("//!", "the variants of `Form`")
     lines += ["", "ghost use Rattle.std.specs.Prelude.{◌≡◌};", "ghost use Rattle.x86_forms.specs.Ordinals.{first_ordinal_of};", ""]

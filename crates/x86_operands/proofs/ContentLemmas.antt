@@ -30,15 +30,12 @@ chosen_has P test own strict p m blank each (row ∷ rest) h =
 
 -- ---- rows that are there alike are chosen alike
 
-same_if : (a b : Bool) (x y z : Content) → a ≡ b → y ≡ z → (if a then x else y) ≡ (if b then x else z)
-same_if a b x y z e f = rw (e, f) refl
-
 module _ (test : FormRow → Bool) (own : TableRow) (s t : Bool) (p q : Prefixes) (m n : ℕ) (same : (row : FormRow) → test row ≡ true → is_there row own s p m ≡ is_there row own t q n) where
   pub chosen_alike : (rows : List FormRow) → list_all test rows ≡ true → choose rows own s p m ≡ choose rows own t q n
   chosen_alike [] h = refl
   chosen_alike (row ∷ rest) h =
       let parts = and_parts (test row) (list_all test rest) h in
-      same_if (is_there row own s p m) (is_there row own t q n) row.content (choose rest own s p m) (choose rest own t q n) (same row parts.0) (chosen_alike rest parts.1)
+      rw (same row parts.0, chosen_alike rest parts.1) refl
 
 -- ---- the memory form: rows go by reg and not by rm, under prefixes that differ in X and B alone
 
@@ -62,11 +59,8 @@ abbrev pub is_register : Place → Bool
 is_register Register = true
 is_register place = false
 
-register_absent : (place : Place) (m : ℕ) → is_register place ≡ true → is_memory m ≡ true → is_placed place m ≡ false
-register_absent place m h e = grind arith
-
 pub row_absent : (row : FormRow) (own : TableRow) (strict : Bool) (p : Prefixes) (m : ℕ) → is_register row.at.place ≡ true → is_memory m ≡ true → is_there row own strict p m ≡ false
-row_absent row own strict p m h e = and_left (is_placed row.at.place m) _ (register_absent row.at.place m h e)
+row_absent row own strict p m h e = and_left (is_placed row.at.place m) _ (grind arith)
 
 -- a row that isn't chosen by rm
 abbrev pub no_rm : Rm → Bool
@@ -206,19 +200,10 @@ encodings_narrow : (operands : Letters) (own : TableRow) (p : Prefixes) (m : ℕ
 unfolding narrow
 encodings_narrow operands own p m h = grind (arith, nat_tests, encoding_most)
 
-named_small : (s : Size) (o : ℕ) (p : Prefixes) → nat_lt (size_bytes s o p) 65 ≡ true
-named_small s o p = grind (arith, small_width)
-
-far_small : (p : Prefixes) → nat_lt (row_bytes FarPointer 0 p) 65 ≡ true
-far_small p = grind arith
-
 bytes_small : (s : RowSize) (o : ℕ) (p : Prefixes) → small_bytes s ≡ true → nat_lt (row_bytes s o p) 65 ≡ true
-bytes_small (Named s) o p h = named_small s o p
-bytes_small FarPointer o p h = far_small p
+bytes_small (Named s) o p h = grind (arith, small_width)
+bytes_small FarPointer o p h = grind arith
 bytes_small s o p h = grind (arith, small_width)
-
-no_gap_named : (names : Names) → not (has_gap (verdict_of names)) ≡ true
-no_gap_named names = grind arith
 
 content_passes : (gaps : Bool) (content : Content) (own : TableRow) (p : Prefixes) (m : ℕ) → fits gaps content ≡ true → passes gaps (plan_of_row content own p m) ≡ true
 unfolding passes
@@ -226,7 +211,7 @@ content_passes gaps (Reads names operands memory register change) own p m h =
     let parts = and_parts (small_bytes memory) _ h in
     let rest = and_parts (small_bytes register) _ parts.1 in
     let o = own.opcode in
-    plan_passes gaps (opcode_of names own m) (operand_encodings operands own p m) _ change (verdict_of names) (no_gap_named names)
+    plan_passes gaps (opcode_of names own m) (operand_encodings operands own p m) _ change (verdict_of names) (grind arith)
     (small_if (is_memory m) (row_bytes memory o p) (row_bytes register o p) (bytes_small memory o p parts.0) (bytes_small register o p rest.0))
     (encodings_narrow operands own p m rest.1)
 content_passes gaps (Refuses operands fault moment) own p m h =
@@ -237,10 +222,7 @@ content_passes gaps (Refuses operands fault moment) own p m h =
 pub rows_pass : (gaps : Bool) (rows : List FormRow) (own : TableRow) (strict : Bool) (p : Prefixes) (m : ℕ) → list_all (row_fits gaps) rows ≡ true → passes gaps (plan_of_row (choose rows own strict p m) own p m) ≡ true
 rows_pass gaps rows own strict p m h =
     content_passes gaps (choose rows own strict p m) own p m
-    (chosen_has (λ content. fits gaps content ≡ true) (row_fits gaps) own strict p m (blank_fits gaps) (λ row e held. e) rows h)
-  where
-    blank_fits : (gaps : Bool) → fits gaps (Refuses letters.Zero BadOpcode AtModRM) ≡ true
-    blank_fits gaps = grind arith
+    (chosen_has (λ content. fits gaps content ≡ true) (row_fits gaps) own strict p m (grind arith) (λ row e held. e) rows h)
 
 -- ---- two ModRM bytes of the memory form that have the same reg, under prefixes that differ in X and B alone
 

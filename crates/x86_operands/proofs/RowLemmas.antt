@@ -13,11 +13,8 @@ use Rattle.x86_operands.specs.Pieces.{SpellsRow, RefusesTail, at_modrm, after_ad
 use Rattle.x86_operands.proofs.RecordLemmas.{RowYields, ends_row, takes_row, takes_row_refused, halts_row}
 
 -- none of the faults is one of these errors
-not_prefixes : (f : Fault) → error_of f ≢ InvalidPrefixes
-not_prefixes f e = grind arith
-
-not_long : (f : Fault) → error_of f ≢ TooLong
-not_long f e = grind arith
+no_fault : (f : Fault) → (error_of f ≢ InvalidPrefixes) × (error_of f ≢ TooLong)
+no_fault f = (λ e. grind arith, λ e. grind arith)
 
 one_gap : (f : Fault) → error_of f ≡ IncompleteDecoder → f ≡ Incomplete
 one_gap f e = grind arith
@@ -39,17 +36,14 @@ module _ (r : RowRecord) (p : Prefixes) where
     settled_by a h final (runs_out bytes rest beginning between runs_out_there) =
         absurd (final (sym h ∙ ap (λ o. o.answer) (runs_out_there rest [] (sym (append-nil rest)) s beginning)))
 
-    settled : (a : Result Reading DecodeError) → (record_step r p s).answer ≡ a → a ≢ Err ExhaustedInput → Settled a
-    settled a h final = settled_by a h final (ends_row r p s)
-
     pub row_read : (reading : Reading) → (record_step r p s).answer ≡ Ok reading → IsReadRow r p reading s (record_step r p s).after
     row_read reading h =
-        let took = settled (Ok reading) h (λ e. cc) in
+        let took = settled_by (Ok reading) h (λ e. cc) (ends_row r p s) in
         record { bytes = took.0; rest = took.1; beginning = took.2; spelled = took.3; taken = took.4 }
 
     pub row_refused : (e : DecodeError) → (record_step r p s).answer ≡ Err e → e ≢ ExhaustedInput → IsRefusedRow r p e s (record_step r p s).after
     row_refused e h other =
-        let took = settled (Err e) h (λ x. other cc) in
+        let took = settled_by (Err e) h (λ x. other cc) (ends_row r p s) in
         let fault = took.3 in
         record { fault = fault.0; named = fault.1; bytes = took.0; rest = took.1; beginning = took.2; refuses = fault.2; taken = took.4 }
 
@@ -77,10 +71,10 @@ module _ (r : RowRecord) (p : Prefixes) where
     -- ---- which errors come
 
     pub row_has_no_prefixes : (record_step r p s).answer ≢ Err InvalidPrefixes
-    row_has_no_prefixes h = let is = row_refused InvalidPrefixes h (λ e. cc) in not_prefixes is.fault (sym is.named)
+    row_has_no_prefixes h = let is = row_refused InvalidPrefixes h (λ e. cc) in (no_fault is.fault).0 (sym is.named)
 
     pub row_has_no_length : (record_step r p s).answer ≢ Err TooLong
-    row_has_no_length h = let is = row_refused TooLong h (λ e. cc) in not_long is.fault (sym is.named)
+    row_has_no_length h = let is = row_refused TooLong h (λ e. cc) in (no_fault is.fault).1 (sym is.named)
 
     gap_of_tail : (m : ℕ) (tail : List ℕ) (f : Fault) → f ≡ Incomplete → RefusesTail (r.plan m) p m tail f → HasGap
     gap_of_tail m tail f is (at_modrm e _) = inr (m, AtModRM, e ∙ ap (λ x. Refuses x AtModRM) is)

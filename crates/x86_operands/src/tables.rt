@@ -2,7 +2,7 @@
 //!
 //! Written by tools/tables.py from specs/Rows.antt.
 //! The proof doesn't rest on that script: a wrong entry is refused.
-ghost use Rattle.std.specs.Prelude.{◌≡◌};
+ghost use Rattle.std.specs.Prelude.{◌≡◌, ◌≤◌, ◌-◌, length, take, drop};
 ghost use Rattle.x86_operands.specs.Rows.{form_rows};
 
 use crate::letters::Letter;
@@ -38,668 +38,383 @@ const U8: Letter = Letter::Last(Last::U8);
 
 const UNSIGNED_ONE: Letter = Letter::Last(Last::UnsignedOne);
 
-const ROWS_ZV_R: &[FormRow; 1] = &[
-    read!(Bare Reg::Any, Rm::Any; Always; Own; One(Z(RegisterSlot::Reg, Vq)); Bytes(8); Bytes(8)),
-];
-
-const ROWS_ZB_IB_R: &[FormRow; 1] = &[
-    read!(Bare Reg::Any, Rm::Any; Always; Own; Two(Z(RegisterSlot::Reg, B), U8); Bytes(0); Bytes(0)),
-];
-
-const ROWS_ZV_IVQ_R: &[FormRow; 1] = &[
-    read!(Bare Reg::Any, Rm::Any; Always; Own; Two(Z(RegisterSlot::Reg, V), IVQ); Bytes(0); Bytes(0)),
-];
-
-const ROWS_ZV_B: &[FormRow; 1] = &[
-    read!(Bare Reg::Any, Rm::Any; Always; Own; One(Z(RegisterSlot::Reg, V)); Bytes(0); Bytes(0)),
-];
-
-const ROWS_NOTHING: &[FormRow; 1] = &[
-    read!(Bare Reg::Any, Rm::Any; Always; Own; Zero; Named(Size::Bare); Named(Size::Bare)),
-];
-
-const ROWS_IBS: &[FormRow; 1] = &[
-    read!(Bare Reg::Any, Rm::Any; Always; Own; One(I8); Bytes(0); Bytes(0)),
-];
-
-const ROWS_JVDS: &[FormRow; 1] = &[
-    read!(Bare Reg::Any, Rm::Any; Always; Own; One(I32); Named(Size::Call); Named(Size::Call)),
-];
-
-const ROWS_PUSHIBS: &[FormRow; 1] = &[
-    read!(Bare Reg::Any, Rm::Any; Always; Own; One(I8); Bytes(8); Bytes(8)),
-];
-
-const ROWS_PUSHIVS: &[FormRow; 1] = &[
-    read!(Bare Reg::Any, Rm::Any; Always; Own; One(IP); Bytes(8); Bytes(8)),
-];
-
-const ROWS_IB: &[FormRow; 1] = &[
-    read!(Bare Reg::Any, Rm::Any; Always; Own; One(U8); Bytes(0); Bytes(0)),
-];
-
-const ROWS_I_3: &[FormRow; 1] = &[
-    read!(Bare Reg::Any, Rm::Any; Always; Own; One(THREE); Bytes(0); Bytes(0)),
-];
-
-const ROWS_I_1: &[FormRow; 1] = &[
-    read!(Bare Reg::Any, Rm::Any; Always; Own; One(UNSIGNED_ONE); Bytes(0); Bytes(0)),
-];
-
-const ROWS_IW: &[FormRow; 1] = &[
-    read!(Bare Reg::Any, Rm::Any; Always; Own; One(U16); Named(Size::Return); Named(Size::Return)),
-];
-
-const ROWS_AH: &[FormRow; 1] = &[
-    read!(Bare Reg::Any, Rm::Any; Always; Own; Zero; Bytes(0); Bytes(0)),
-];
-
-const ROWS_AL_IBS: &[FormRow; 1] = &[
-    read!(Bare Reg::Any, Rm::Any; Always; Own; Two(A(B), I8); Bytes(0); Bytes(0)),
-];
-
-const ROWS_AX_IVD: &[FormRow; 1] = &[
-    read!(Bare Reg::Any, Rm::Any; Always; Own; Two(A(V), IV); Bytes(0); Bytes(0)),
-];
-
-const ROWS_AL_IB: &[FormRow; 1] = &[
-    read!(Bare Reg::Any, Rm::Any; Always; Own; Two(A(B), U8); Bytes(0); Bytes(0)),
-];
-
-const ROWS_AX_IB: &[FormRow; 1] = &[
-    read!(Bare Reg::Any, Rm::Any; Always; Own; Two(A(Vd), U8); Bytes(0); Bytes(0)),
-];
-
-const ROWS_IB_AL: &[FormRow; 1] = &[
-    read!(Bare Reg::Any, Rm::Any; Always; Own; Two(U8, A(B)); Bytes(0); Bytes(0)),
-];
-
-const ROWS_IB_AX: &[FormRow; 1] = &[
-    read!(Bare Reg::Any, Rm::Any; Always; Own; Two(U8, A(Vd)); Bytes(0); Bytes(0)),
-];
-
-const ROWS_ZV_AX_R: &[FormRow; 2] = &[
-    read!(Bare Reg::Any, Rm::Any; Register0; Name(76); Zero; Bytes(0); Bytes(0)),
-    read!(Bare Reg::Any, Rm::Any; Always; Own; Two(A(V), Z(RegisterSlot::Rm, V)); Bytes(0); Bytes(0)),
-];
-
-const ROWS_CVT_AA: &[FormRow; 3] = &[
-    read!(Bare Reg::Any, Rm::Any; RexW; Name(429); Zero; Bytes(0); Bytes(0)),
-    read!(Bare Reg::Any, Rm::Any; With66; Name(427); Zero; Bytes(0); Bytes(0)),
-    read!(Bare Reg::Any, Rm::Any; Always; Name(442); Zero; Bytes(0); Bytes(0)),
-];
-
-const ROWS_CVT_DA: &[FormRow; 3] = &[
-    read!(Bare Reg::Any, Rm::Any; RexW; Name(440); Zero; Bytes(0); Bytes(0)),
-    read!(Bare Reg::Any, Rm::Any; With66; Name(441); Zero; Bytes(0); Bytes(0)),
-    read!(Bare Reg::Any, Rm::Any; Always; Name(428); Zero; Bytes(0); Bytes(0)),
-];
-
-const ROWS_FW: &[FormRow; 3] = &[
-    read!(Bare Reg::Any, Rm::Any; RexW; Name(554); Zero; Bytes(0); Bytes(0)),
-    read!(Bare Reg::Any, Rm::Any; With66; Name(552); Zero; Bytes(0); Bytes(0)),
-    read!(Bare Reg::Any, Rm::Any; Always; Name(553); Zero; Bytes(0); Bytes(0)),
-];
-
-const ROWS_CXZ: &[FormRow; 2] = &[
-    read!(Bare Reg::Any, Rm::Any; With67; Name(555); One(I8); Bytes(0); Bytes(0)),
-    read!(Bare Reg::Any, Rm::Any; Always; Own; One(I8); Bytes(0); Bytes(0)),
-];
-
-const ROWS_FS: &[FormRow; 1] = &[
-    read!(Bare Reg::Any, Rm::Any; Always; Own; One(Implied(RegisterSlot::Reg, 4, RegisterClass::S)); Bytes(8); Bytes(8)),
-];
-
-const ROWS_GS: &[FormRow; 1] = &[
-    read!(Bare Reg::Any, Rm::Any; Always; Own; One(Implied(RegisterSlot::Reg, 5, RegisterClass::S)); Bytes(8); Bytes(8)),
-];
-
-const ROWS_IW_IB: &[FormRow; 1] = &[
-    read!(Bare Reg::Any, Rm::Any; Always; Own; Two(X16, U8); Bytes(8); Bytes(8)),
-];
-
-const ROWS_AL_DX: &[FormRow; 1] = &[
-    read!(Bare Reg::Any, Rm::Any; Always; Own; Two(A(B), Implied(RegisterSlot::Rm, 2, RegisterClass::W)); Bytes(0); Bytes(0)),
-];
-
-const ROWS_AX_DX: &[FormRow; 1] = &[
-    read!(Bare Reg::Any, Rm::Any; Always; Own; Two(A(Vd), Implied(RegisterSlot::Rm, 2, RegisterClass::W)); Bytes(0); Bytes(0)),
-];
-
-const ROWS_DX_AL: &[FormRow; 1] = &[
-    read!(Bare Reg::Any, Rm::Any; Always; Own; Two(Implied(RegisterSlot::Rm, 2, RegisterClass::W), A(B)); Bytes(0); Bytes(0)),
-];
-
-const ROWS_DX_AX: &[FormRow; 1] = &[
-    read!(Bare Reg::Any, Rm::Any; Always; Own; Two(Implied(RegisterSlot::Rm, 2, RegisterClass::W), A(Vd)); Bytes(0); Bytes(0)),
-];
-
-const ROWS_AL_OB: &[FormRow; 1] = &[
-    read!(Bare Reg::Any, Rm::Any; Always; Own; Two(A(B), Offset); Bytes(1); Bytes(1)),
-];
-
-const ROWS_AX_OV: &[FormRow; 1] = &[
-    read!(Bare Reg::Any, Rm::Any; Always; Own; Two(A(V), Offset); Of(V); Of(V)),
-];
-
-const ROWS_OB_AL: &[FormRow; 1] = &[
-    read!(Bare Reg::Any, Rm::Any; Always; Own; Two(Offset, A(B)); Bytes(1); Bytes(1)),
-];
-
-const ROWS_OV_AX: &[FormRow; 1] = &[
-    read!(Bare Reg::Any, Rm::Any; Always; Own; Two(Offset, A(V)); Of(V); Of(V)),
-];
-
-const ROWS_AL_XB: &[FormRow; 1] = &[
-    read!(Bare Reg::Any, Rm::Any; Always; Own; Two(A(B), Source); Bytes(1); Bytes(1)),
-];
-
-const ROWS_AX_XV: &[FormRow; 1] = &[
-    read!(Bare Reg::Any, Rm::Any; Always; Own; Two(A(V), Source); Of(V); Of(V)),
-];
-
-const ROWS_YB_AL: &[FormRow; 1] = &[
-    read!(Bare Reg::Any, Rm::Any; Always; Own; Two(Destination, A(B)); Bytes(1); Bytes(1); SetsEs),
-];
-
-const ROWS_YV_AX: &[FormRow; 1] = &[
-    read!(Bare Reg::Any, Rm::Any; Always; Own; Two(Destination, A(V)); Of(V); Of(V); SetsEs),
-];
-
-const ROWS_YB_XB: &[FormRow; 2] = &[
-    read!(Bare Reg::Any, Rm::Any; With67; Own; Two(At(PointerSlot::DerefEdi, 7, RegisterClass::D), At(PointerSlot::DerefEsi, 6, RegisterClass::D)); Bytes(1); Bytes(1)),
-    read!(Bare Reg::Any, Rm::Any; Always; Own; Two(At(PointerSlot::DerefRdi, 7, RegisterClass::Q), At(PointerSlot::DerefRsi, 6, RegisterClass::Q)); Bytes(1); Bytes(1)),
-];
-
-const ROWS_YV_XV: &[FormRow; 2] = &[
-    read!(Bare Reg::Any, Rm::Any; With67; Own; Two(At(PointerSlot::DerefEdi, 7, RegisterClass::D), At(PointerSlot::DerefEsi, 6, RegisterClass::D)); Of(V); Of(V)),
-    read!(Bare Reg::Any, Rm::Any; Always; Own; Two(At(PointerSlot::DerefRdi, 7, RegisterClass::Q), At(PointerSlot::DerefRsi, 6, RegisterClass::Q)); Of(V); Of(V)),
-];
-
-const ROWS_YB_DX: &[FormRow; 1] = &[
-    read!(Bare Reg::Any, Rm::Any; Always; Own; Two(At(PointerSlot::Deref, 7, RegisterClass::Q), Implied(RegisterSlot::Reg, 2, RegisterClass::B)); Bytes(1); Bytes(1)),
-];
-
-const ROWS_YV_DX: &[FormRow; 2] = &[
-    read!(Bare Reg::Any, Rm::Any; With66; Own; Two(At(PointerSlot::Deref, 7, RegisterClass::Q), Implied(RegisterSlot::Reg, 2, RegisterClass::W)); Bytes(2); Bytes(2)),
-    read!(Bare Reg::Any, Rm::Any; Always; Own; Two(At(PointerSlot::Deref, 7, RegisterClass::Q), Implied(RegisterSlot::Reg, 2, RegisterClass::W)); Bytes(4); Bytes(4)),
-];
-
-const ROWS_DX_XB: &[FormRow; 1] = &[
-    read!(Bare Reg::Any, Rm::Any; Always; Own; Two(Implied(RegisterSlot::Reg, 2, RegisterClass::B), At(PointerSlot::Deref, 6, RegisterClass::Q)); Bytes(1); Bytes(1)),
-];
-
-const ROWS_DX_XV: &[FormRow; 2] = &[
-    read!(Bare Reg::Any, Rm::Any; With66; Own; Two(Implied(RegisterSlot::Reg, 2, RegisterClass::W), At(PointerSlot::Deref, 6, RegisterClass::Q)); Bytes(2); Bytes(2)),
-    read!(Bare Reg::Any, Rm::Any; Always; Own; Two(Implied(RegisterSlot::Reg, 2, RegisterClass::W), At(PointerSlot::Deref, 6, RegisterClass::Q)); Bytes(4); Bytes(4)),
-];
-
-const ROWS_EB_GB: &[FormRow; 1] = &[
-    read!(Either Reg::Any, Rm::Any; Always; Own; Two(E(B), G(B)); Bytes(1); Bytes(1)),
-];
-
-const ROWS_GB_EB: &[FormRow; 1] = &[
-    read!(Either Reg::Any, Rm::Any; Always; Own; Two(G(B), E(B)); Bytes(1); Bytes(1)),
-];
-
-const ROWS_EV_GV: &[FormRow; 1] = &[
-    read!(Either Reg::Any, Rm::Any; Always; Own; Two(E(V), G(V)); Of(V); Of(V)),
-];
-
-const ROWS_GV_EV: &[FormRow; 1] = &[
-    read!(Either Reg::Any, Rm::Any; Always; Own; Two(G(V), E(V)); Of(V); Of(V)),
-];
-
-const ROWS_GV_M: &[FormRow; 2] = &[
-    read!(Memory Reg::Any, Rm::Any; Always; Own; Two(G(V), M); Of(V); Of(V)),
-    refusal!(Either Reg::Any, Rm::Any; Always; Two(G(V), M); BadOperand AtModRM),
-];
-
-const ROWS_M_GV: &[FormRow; 2] = &[
-    read!(Memory Reg::Any, Rm::Any; Always; Own; Two(M, G(V)); Of(V); Of(V)),
-    refusal!(Either Reg::Any, Rm::Any; Always; Two(M, G(V)); BadOperand AtModRM),
-];
-
-const ROWS_EB_R0: &[FormRow; 1] = &[
-    read!(Either Reg::Any, Rm::Any; Always; Own; One(E(B)); Bytes(1); Bytes(1)),
-];
-
-const ROWS_EV: &[FormRow; 1] = &[
-    read!(Either Reg::Any, Rm::Any; Always; Own; One(E(V)); Of(V); Of(V)),
-];
-
-const ROWS_GV_EB: &[FormRow; 1] = &[
-    read!(Either Reg::Any, Rm::Any; Always; Own; Two(G(V), E(B)); Bytes(1); Bytes(0)),
-];
-
-const ROWS_GV_EW: &[FormRow; 1] = &[
-    read!(Either Reg::Any, Rm::Any; Always; Own; Two(G(V), E(W)); Bytes(2); Bytes(0)),
-];
-
-const ROWS_GDQ_ED: &[FormRow; 1] = &[
-    read!(Either Reg::Any, Rm::Any; Always; Own; Two(G(Q), E(D)); Bytes(4); Of(V)),
-];
-
-const ROWS_GD_ED: &[FormRow; 1] = &[
-    read!(Either Reg::Any, Rm::Any; Always; Own; Two(G(D), E(D)); Bytes(4); Of(V)),
-];
-
-const ROWS_GDQ_EV: &[FormRow; 1] = &[
-    read!(Either Reg::Any, Rm::Any; Always; Own; Two(G(Dq), E(V)); Bytes(4); Of(V)),
-];
-
-const ROWS_GV_EV_IB: &[FormRow; 1] = &[
-    read!(Either Reg::Any, Rm::Any; Always; Own; Three(G(V), E(V), I8); Of(V); Of(V)),
-];
-
-const ROWS_GV_EV_IV: &[FormRow; 1] = &[
-    read!(Either Reg::Any, Rm::Any; Always; Own; Three(G(V), E(V), IV); Of(V); Of(V)),
-];
-
-const ROWS_EV_GV_IB: &[FormRow; 1] = &[
-    read!(Either Reg::Any, Rm::Any; Always; Own; Three(E(V), G(V), I8); Of(V); Of(V)),
-];
-
-const ROWS_EV_GV_CL: &[FormRow; 1] = &[
-    read!(Either Reg::Any, Rm::Any; Always; Own; Three(E(V), G(V), Implied(RegisterSlot::Third, 1, RegisterClass::B)); Of(V); Of(V)),
-];
-
-const ROWS_GV_EW_LAR: &[FormRow; 1] = &[
-    read!(Either Reg::Any, Rm::Any; Always; Own; Two(G(V), E(V)); Bytes(2); Of(V)),
-];
-
-const ROWS_GV_EW_LSL: &[FormRow; 1] = &[
-    read!(Either Reg::Any, Rm::Any; Always; Own; Two(G(V), E(Vd)); Bytes(2); Of(V)),
-];
-
-const ROWS_MDQ_GDQ: &[FormRow; 2] = &[
-    read!(Memory Reg::Any, Rm::Any; Always; Own; Two(M, G(Dq)); Of(Dq); Of(Dq)),
-    refusal!(Either Reg::Any, Rm::Any; Always; Two(M, G(Dq)); BadOperand AtModRM),
-];
-
-const ROWS_G_E_Q: &[FormRow; 1] = &[
-    read!(Either Reg::Any, Rm::Any; Always; Own; Two(G(Q), E(Q)); Bytes(8); Of(V)),
-];
-
-const ROWS_E_G_Q: &[FormRow; 1] = &[
-    read!(Either Reg::Any, Rm::Any; Always; Own; Two(E(Q), G(Q)); Bytes(8); Of(V)),
-];
-
-const ROWS_G_E_XMM: &[FormRow; 1] = &[
-    read!(Either Reg::Any, Rm::Any; Always; Own; Two(G(X), E(X)); Named(Size::Duplicate); Of(V)),
-];
-
-const ROWS_E_G_XMM: &[FormRow; 1] = &[
-    read!(Either Reg::Any, Rm::Any; Always; Own; Two(E(X), G(X)); Bytes(16); Of(V)),
-];
-
-const ROWS_G_ED_XMM: &[FormRow; 1] = &[
-    read!(Either Reg::Any, Rm::Any; Always; Own; Two(G(X), E(X)); Bytes(4); Of(V)),
-];
-
-const ROWS_ED_G_XMM: &[FormRow; 1] = &[
-    read!(Either Reg::Any, Rm::Any; Always; Own; Two(E(X), G(X)); Bytes(4); Of(V)),
-];
-
-const ROWS_G_M_XMM: &[FormRow; 2] = &[
-    read!(Memory Reg::Any, Rm::Any; Always; Own; Two(G(X), M); Bytes(16); Bytes(16)),
-    refusal!(Either Reg::Any, Rm::Any; Always; Two(G(X), M); BadOperand AtModRM),
-];
-
-const ROWS_M_G_XMM: &[FormRow; 2] = &[
-    read!(Memory Reg::Any, Rm::Any; Always; Own; Two(M, G(X)); Named(Size::Stream); Named(Size::Stream)),
-    refusal!(Either Reg::Any, Rm::Any; Always; Two(M, G(X)); BadOperand AtModRM),
-];
-
-const ROWS_G_E_XMM_IB: &[FormRow; 1] = &[
-    read!(Either Reg::Any, Rm::Any; Always; Own; Three(G(X), E(X), I8); Named(Size::Scalar); Of(V)),
-];
-
-const ROWS_G_E_XMM_UB: &[FormRow; 1] = &[
-    read!(Either Reg::Any, Rm::Any; Always; Own; Three(G(X), E(X), U8); Bytes(16); Of(V)),
-];
-
-const ROWS_PMOVX_G_E_XMM: &[FormRow; 3] = &[
-    refusal!(Register Reg::Any, Rm::Any; Opcode(237); Two(G(X), E(X)); BadOperand AtModRM),
-    refusal!(Register Reg::Any, Rm::Any; Opcode(238); Two(G(X), E(X)); BadOperand AtModRM),
-    read!(Either Reg::Any, Rm::Any; Always; Own; Two(G(X), E(X)); Named(Size::Extend); Of(V)),
-];
-
-const ROWS_PMOVX_E_G_XMM: &[FormRow; 1] = &[
-    read!(Either Reg::Any, Rm::Any; Always; Own; Two(E(X), G(X)); Bytes(8); Of(V)),
-];
-
-const ROWS_MOVQ_F30F: &[FormRow; 1] = &[
-    read!(Either Reg::Any, Rm::Any; Always; Own; Two(G(X), E(X)); Bytes(8); Of(V)),
-];
-
-const ROWS_GDQ_EQ_XMM: &[FormRow; 1] = &[
-    read!(Either Reg::Any, Rm::Any; Always; Own; Two(G(V), E(X)); Bytes(8); Of(V)),
-];
-
-const ROWS_GV_E_XMM: &[FormRow; 1] = &[
-    read!(Either Reg::Any, Rm::Any; Always; Own; Two(G(V), E(X)); Bytes(4); Of(V)),
-];
-
-const ROWS_GD_U_XMM: &[FormRow; 2] = &[
-    read!(Register Reg::Any, Rm::Any; Always; Own; Two(G(D), U(X)); Of(V); Of(V)),
-    refusal!(Either Reg::Any, Rm::Any; Always; Two(G(D), U(X)); BadOperand AfterAddress),
-];
-
-const ROWS_G_U_XMM: &[FormRow; 2] = &[
-    read!(Register Reg::Any, Rm::Any; Always; Own; Two(G(X), U(X)); Of(V); Of(V)),
-    refusal!(Either Reg::Any, Rm::Any; Always; Two(G(X), U(X)); BadOperand AfterAddress),
-];
-
-const ROWS_MASKMOVDQU: &[FormRow; 2] = &[
-    read!(Register Reg::Any, Rm::Any; Always; Own; Two(G(X), U(X)); Bytes(16); Bytes(16)),
-    refusal!(Either Reg::Any, Rm::Any; Always; Two(G(X), U(X)); BadOperand AfterAddress),
-];
-
-const ROWS_G_U_XMM_UB: &[FormRow; 2] = &[
-    read!(Register Reg::Any, Rm::Any; Always; Own; Three(G(D), U(X), U8); Of(V); Of(V)),
-    refusal!(Either Reg::Any, Rm::Any; Always; Three(G(D), U(X), U8); BadOperand AfterAddress),
-];
-
-const ROWS_EV_G_XMM_IB: &[FormRow; 1] = &[
-    read!(Either Reg::Any, Rm::Any; Always; Own; Three(E(V), G(X), U8); Named(Size::Extract); Named(Size::Extract)),
-];
-
-const ROWS_G_EV_XMM_IB: &[FormRow; 1] = &[
-    read!(Either Reg::Any, Rm::Any; Always; Own; Three(G(X), E(X), U8); Named(Size::Insert); Of(V)),
-];
-
-const ROWS_G_XMM_EW_IB: &[FormRow; 1] = &[
-    read!(Either Reg::Any, Rm::Any; Always; Own; Three(G(X), E(D), U8); Bytes(2); Of(V)),
-];
-
-const ROWS_G_XMM_EDQ: &[FormRow; 1] = &[
-    read!(Either Reg::Any, Rm::Any; Always; Own; Two(G(X), E(Dq)); Of(V); Of(V)),
-];
-
-const ROWS_G_XMM_E_MM: &[FormRow; 1] = &[
-    read!(Either Reg::Any, Rm::Any; Always; Own; Two(G(X), Emm); Bytes(8); Of(V)),
-];
-
-const ROWS_G_MM_E_XMM: &[FormRow; 1] = &[
-    read!(Either Reg::Any, Rm::Any; Always; Own; Two(Gmm, E(X)); Bytes(16); Of(V)),
-];
-
-const ROWS_G_XMM_U_MM: &[FormRow; 2] = &[
-    read!(Register Reg::Any, Rm::Any; Always; Own; Two(G(X), Umm); Of(V); Of(V)),
-    refusal!(Either Reg::Any, Rm::Any; Always; Two(G(X), Umm); BadOperand AfterAddress),
-];
-
-const ROWS_G_MM_U_XMM: &[FormRow; 2] = &[
-    read!(Register Reg::Any, Rm::Any; Always; Own; Two(Gmm, U(X)); Of(V); Of(V)),
-    refusal!(Either Reg::Any, Rm::Any; Always; Two(Gmm, U(X)); BadOperand AfterAddress),
-];
-
-const ROWS_G_U_MM: &[FormRow; 2] = &[
-    read!(Register Reg::Any, Rm::Any; Always; Own; Two(G(D), Umm); Of(V); Of(V)),
-    refusal!(Either Reg::Any, Rm::Any; Always; Two(G(D), Umm); BadOperand AfterAddress),
-];
-
-const ROWS_G_E_MM: &[FormRow; 1] = &[
-    read!(Either Reg::Any, Rm::Any; Always; Own; Two(Gmm, Emm); Named(Size::Unpack); Of(V)),
-];
-
-const ROWS_G_MM_E: &[FormRow; 1] = &[
-    read!(Either Reg::Any, Rm::Any; Always; Own; Two(Gmm, Emm); Bytes(8); Of(V)),
-];
-
-const ROWS_E_G_MM: &[FormRow; 1] = &[
-    read!(Either Reg::Any, Rm::Any; Always; Own; Two(Emm, Gmm); Bytes(8); Of(V)),
-];
-
-const ROWS_G_E_MM_IB: &[FormRow; 1] = &[
-    read!(Either Reg::Any, Rm::Any; Always; Own; Three(Gmm, Emm, I8); Bytes(8); Bytes(0)),
-];
-
-const ROWS_G_MM_EDQ: &[FormRow; 1] = &[
-    read!(Either Reg::Any, Rm::Any; Always; Own; Two(Gmm, E(Dq)); Of(V); Of(V)),
-];
-
-const ROWS_EDQ_G_MM: &[FormRow; 1] = &[
-    read!(Either Reg::Any, Rm::Any; Always; Own; Two(E(Dq), Gmm); Of(Dq); Of(V)),
-];
-
-const ROWS_G_MQ_MM: &[FormRow; 2] = &[
-    read!(Memory Reg::Any, Rm::Any; Always; Own; Two(M, Gmm); Bytes(8); Bytes(8)),
-    refusal!(Either Reg::Any, Rm::Any; Always; Two(M, Gmm); BadOperand AtModRM),
-];
-
-const ROWS_G_MM_U_MM: &[FormRow; 2] = &[
-    read!(Register Reg::Any, Rm::Any; Always; Own; Two(Gmm, Umm); Bytes(8); Bytes(8)),
-    refusal!(Either Reg::Any, Rm::Any; Always; Two(Gmm, Umm); BadOperand AfterAddress),
-];
-
-const ROWS_G_MM_EW_IB: &[FormRow; 1] = &[
-    read!(Either Reg::Any, Rm::Any; Always; Own; Three(Gmm, E(D), I8); Bytes(2); Of(V)),
-];
-
-const ROWS_EW_SW: &[FormRow; 3] = &[
-    refusal!(Either Reg::Any, Rm::Any; RexR; Zero; BadOperand AfterAddress),
-    read!(Either Reg::From(0, 5), Rm::Any; Always; Own; Two(E(D), Sr); Bytes(2); Of(V)),
-    refusal!(Either Reg::Any, Rm::Any; Always; Zero; BadOperand AfterAddress),
-];
-
-const ROWS_SW_EW: &[FormRow; 4] = &[
-    refusal!(Either Reg::Any, Rm::Any; RexR; Zero; BadOperand AfterAddress),
-    refusal!(Either Reg::Is(1), Rm::Any; Always; Zero; BadOperand AfterAddress),
-    read!(Either Reg::From(0, 5), Rm::Any; Always; Own; Two(Sr, E(W)); Bytes(2); Of(V)),
-    refusal!(Either Reg::Any, Rm::Any; Always; Zero; BadOperand AfterAddress),
-];
-
-const ROWS_INV_GV_M: &[FormRow; 7] = &[
-    read!(Memory Reg::Any, Rm::Any; Opcode(128); Own; Two(G(V), M); FarPointer; FarPointer),
-    read!(Memory Reg::Any, Rm::Any; Opcode(129); Own; Two(G(V), M); FarPointer; FarPointer),
-    read!(Memory Reg::Any, Rm::Any; Opcode(127); Own; Two(G(V), M); FarPointer; FarPointer),
-    read!(Memory Reg::Any, Rm::Any; Opcode(391); Own; Two(G(Q), M); Bytes(64); Bytes(64)),
-    read!(Memory Reg::Any, Rm::Any; Opcode(389); Own; Two(G(Q), M); Bytes(64); Bytes(64)),
-    read!(Memory Reg::Any, Rm::Any; Always; Own; Two(G(Q), M); Bytes(16); Bytes(16)),
-    refusal!(Either Reg::Any, Rm::Any; Always; Zero; BadOperand AtModRM),
-];
-
-const ROWS_MOVDIR64B: &[FormRow; 3] = &[
-    read!(Memory Reg::Any, Rm::Any; With67; Own; Two(G(D), M); Bytes(64); Bytes(64)),
-    read!(Memory Reg::Any, Rm::Any; Always; Own; Two(G(Q), M); Bytes(64); Bytes(64)),
-    refusal!(Either Reg::Any, Rm::Any; Always; Zero; BadOperand AtModRM),
-];
-
-const ROWS_PEXTR_DQ: &[FormRow; 2] = &[
-    read!(Either Reg::Any, Rm::Any; RexW; Name(577); Three(E(V), G(X), U8); Of(Dq); Of(Dq)),
-    read!(Either Reg::Any, Rm::Any; Always; Name(411); Three(E(V), G(X), U8); Of(Dq); Of(Dq)),
-];
-
-const ROWS_PINSR_DQ: &[FormRow; 2] = &[
-    read!(Either Reg::Any, Rm::Any; RexW; Name(599); Three(G(X), E(X), U8); Of(Dq); Of(V)),
-    read!(Either Reg::Any, Rm::Any; Always; Name(414); Three(G(X), E(X), U8); Of(Dq); Of(V)),
-];
-
-const ROWS_EDQ_G_XMM: &[FormRow; 2] = &[
-    read!(Either Reg::Any, Rm::Any; RexW; Name(220); Two(E(Dq), G(X)); Of(Dq); Of(V)),
-    read!(Either Reg::Any, Rm::Any; Always; Own; Two(E(Dq), G(X)); Of(Dq); Of(V)),
-];
-
-const ROWS_RV_GMM_IB: &[FormRow; 2] = &[
-    read!(Register Reg::Any, Rm::Any; Always; Own; Three(G(D), Umm, U8); Of(V); Of(V)),
-    refusal!(Either Reg::Any, Rm::Any; Always; Three(G(D), Umm, U8); BadOperand AfterSuffix),
-];
-
-/// The rows of a form that has none.
-const LEFT_OUT: &[FormRow; 1] = &[
+/// The rows of all forms, after that of a form that has none.
+pub(crate) const ROWS: &[FormRow; 157] = &[
     refusal!(Either Reg::Any, Rm::Any; Always; Zero; Incomplete AtModRM),
+    read!(Bare Reg::Any, Rm::Any; Always; Own; One(Z(RegisterSlot::Reg, Vq)); Bytes(8); Bytes(8)), // Zv_R
+    read!(Bare Reg::Any, Rm::Any; Register0; Name(76); Zero; Bytes(0); Bytes(0)), // Zv_AX_R
+    read!(Bare Reg::Any, Rm::Any; Always; Own; Two(A(V), Z(RegisterSlot::Rm, V)); Bytes(0); Bytes(0)), // Zv_AX_R
+    read!(Bare Reg::Any, Rm::Any; Always; Own; Two(Z(RegisterSlot::Reg, B), U8); Bytes(0); Bytes(0)), // Zb_Ib_R
+    read!(Bare Reg::Any, Rm::Any; Always; Own; Two(Z(RegisterSlot::Reg, V), IVQ); Bytes(0); Bytes(0)), // Zv_Ivq_R
+    read!(Bare Reg::Any, Rm::Any; Always; Own; One(Z(RegisterSlot::Reg, V)); Bytes(0); Bytes(0)), // Zv_B
+    read!(Either Reg::Any, Rm::Any; Always; Own; Two(E(B), G(B)); Bytes(1); Bytes(1)), // Eb_Gb
+    read!(Either Reg::Any, Rm::Any; Always; Own; Two(E(V), G(V)); Of(V); Of(V)), // Ev_Gv
+    read!(Either Reg::Any, Rm::Any; Always; Own; Two(G(B), E(B)); Bytes(1); Bytes(1)), // Gb_Eb
+    read!(Either Reg::Any, Rm::Any; Always; Own; Two(G(V), E(V)); Of(V); Of(V)), // Gv_Ev
+    read!(Bare Reg::Any, Rm::Any; Always; Own; Two(A(B), I8); Bytes(0); Bytes(0)), // AL_Ibs
+    read!(Bare Reg::Any, Rm::Any; Always; Own; Two(A(V), IV); Bytes(0); Bytes(0)), // AX_Ivd
+    read!(Either Reg::Any, Rm::Any; Always; Own; Two(G(Q), E(D)); Bytes(4); Of(V)), // Gdq_Ed
+    read!(Bare Reg::Any, Rm::Any; Always; Own; One(IP); Bytes(8); Bytes(8)), // PushIvs
+    read!(Either Reg::Any, Rm::Any; Always; Own; Three(G(V), E(V), IV); Of(V); Of(V)), // Gv_Ev_Iv
+    read!(Bare Reg::Any, Rm::Any; Always; Own; One(I8); Bytes(8); Bytes(8)), // PushIbs
+    read!(Either Reg::Any, Rm::Any; Always; Own; Three(G(V), E(V), I8); Of(V); Of(V)), // Gv_Ev_Ib
+    read!(Bare Reg::Any, Rm::Any; Always; Own; Two(At(PointerSlot::Deref, 7, RegisterClass::Q), Implied(RegisterSlot::Reg, 2, RegisterClass::B)); Bytes(1); Bytes(1)), // Yb_DX
+    read!(Bare Reg::Any, Rm::Any; With66; Own; Two(At(PointerSlot::Deref, 7, RegisterClass::Q), Implied(RegisterSlot::Reg, 2, RegisterClass::W)); Bytes(2); Bytes(2)), // Yv_DX
+    read!(Bare Reg::Any, Rm::Any; Always; Own; Two(At(PointerSlot::Deref, 7, RegisterClass::Q), Implied(RegisterSlot::Reg, 2, RegisterClass::W)); Bytes(4); Bytes(4)), // Yv_DX
+    read!(Bare Reg::Any, Rm::Any; Always; Own; Two(Implied(RegisterSlot::Reg, 2, RegisterClass::B), At(PointerSlot::Deref, 6, RegisterClass::Q)); Bytes(1); Bytes(1)), // DX_Xb
+    read!(Bare Reg::Any, Rm::Any; With66; Own; Two(Implied(RegisterSlot::Reg, 2, RegisterClass::W), At(PointerSlot::Deref, 6, RegisterClass::Q)); Bytes(2); Bytes(2)), // DX_Xv
+    read!(Bare Reg::Any, Rm::Any; Always; Own; Two(Implied(RegisterSlot::Reg, 2, RegisterClass::W), At(PointerSlot::Deref, 6, RegisterClass::Q)); Bytes(4); Bytes(4)), // DX_Xv
+    read!(Bare Reg::Any, Rm::Any; Always; Own; One(I8); Bytes(0); Bytes(0)), // Ibs
+    refusal!(Either Reg::Any, Rm::Any; RexR; Zero; BadOperand AfterAddress), // Ew_Sw
+    read!(Either Reg::From(0, 5), Rm::Any; Always; Own; Two(E(D), Sr); Bytes(2); Of(V)), // Ew_Sw
+    refusal!(Either Reg::Any, Rm::Any; Always; Zero; BadOperand AfterAddress), // Ew_Sw
+    read!(Memory Reg::Any, Rm::Any; Always; Own; Two(G(V), M); Of(V); Of(V)), // Gv_M
+    refusal!(Either Reg::Any, Rm::Any; Always; Two(G(V), M); BadOperand AtModRM), // Gv_M
+    refusal!(Either Reg::Any, Rm::Any; RexR; Zero; BadOperand AfterAddress), // Sw_Ew
+    refusal!(Either Reg::Is(1), Rm::Any; Always; Zero; BadOperand AfterAddress), // Sw_Ew
+    read!(Either Reg::From(0, 5), Rm::Any; Always; Own; Two(Sr, E(W)); Bytes(2); Of(V)), // Sw_Ew
+    refusal!(Either Reg::Any, Rm::Any; Always; Zero; BadOperand AfterAddress), // Sw_Ew
+    read!(Bare Reg::Any, Rm::Any; RexW; Name(429); Zero; Bytes(0); Bytes(0)), // CVT_AA
+    read!(Bare Reg::Any, Rm::Any; With66; Name(427); Zero; Bytes(0); Bytes(0)), // CVT_AA
+    read!(Bare Reg::Any, Rm::Any; Always; Name(442); Zero; Bytes(0); Bytes(0)), // CVT_AA
+    read!(Bare Reg::Any, Rm::Any; RexW; Name(440); Zero; Bytes(0); Bytes(0)), // CVT_DA
+    read!(Bare Reg::Any, Rm::Any; With66; Name(441); Zero; Bytes(0); Bytes(0)), // CVT_DA
+    read!(Bare Reg::Any, Rm::Any; Always; Name(428); Zero; Bytes(0); Bytes(0)), // CVT_DA
+    read!(Bare Reg::Any, Rm::Any; Always; Own; Zero; Named(Size::Bare); Named(Size::Bare)), // Nothing
+    read!(Bare Reg::Any, Rm::Any; Always; Own; Zero; Bytes(0); Bytes(0)), // AH
+    read!(Bare Reg::Any, Rm::Any; Always; Own; Two(A(B), Offset); Bytes(1); Bytes(1)), // AL_Ob
+    read!(Bare Reg::Any, Rm::Any; Always; Own; Two(A(V), Offset); Of(V); Of(V)), // AX_Ov
+    read!(Bare Reg::Any, Rm::Any; Always; Own; Two(Offset, A(B)); Bytes(1); Bytes(1)), // Ob_AL
+    read!(Bare Reg::Any, Rm::Any; Always; Own; Two(Offset, A(V)); Of(V); Of(V)), // Ov_AX
+    read!(Bare Reg::Any, Rm::Any; With67; Own; Two(At(PointerSlot::DerefEdi, 7, RegisterClass::D), At(PointerSlot::DerefEsi, 6, RegisterClass::D)); Bytes(1); Bytes(1)), // Yb_Xb
+    read!(Bare Reg::Any, Rm::Any; Always; Own; Two(At(PointerSlot::DerefRdi, 7, RegisterClass::Q), At(PointerSlot::DerefRsi, 6, RegisterClass::Q)); Bytes(1); Bytes(1)), // Yb_Xb
+    read!(Bare Reg::Any, Rm::Any; With67; Own; Two(At(PointerSlot::DerefEdi, 7, RegisterClass::D), At(PointerSlot::DerefEsi, 6, RegisterClass::D)); Of(V); Of(V)), // Yv_Xv
+    read!(Bare Reg::Any, Rm::Any; Always; Own; Two(At(PointerSlot::DerefRdi, 7, RegisterClass::Q), At(PointerSlot::DerefRsi, 6, RegisterClass::Q)); Of(V); Of(V)), // Yv_Xv
+    read!(Bare Reg::Any, Rm::Any; Always; Own; Two(Destination, A(B)); Bytes(1); Bytes(1); SetsEs), // Yb_AL
+    read!(Bare Reg::Any, Rm::Any; Always; Own; Two(Destination, A(V)); Of(V); Of(V); SetsEs), // Yv_AX
+    read!(Bare Reg::Any, Rm::Any; Always; Own; Two(A(B), Source); Bytes(1); Bytes(1)), // AL_Xb
+    read!(Bare Reg::Any, Rm::Any; Always; Own; Two(A(V), Source); Of(V); Of(V)), // AX_Xv
+    read!(Bare Reg::Any, Rm::Any; Always; Own; One(U16); Named(Size::Return); Named(Size::Return)), // Iw
+    read!(Bare Reg::Any, Rm::Any; Always; Own; Two(X16, U8); Bytes(8); Bytes(8)), // Iw_Ib
+    read!(Bare Reg::Any, Rm::Any; Always; Own; One(THREE); Bytes(0); Bytes(0)), // I_3
+    read!(Bare Reg::Any, Rm::Any; Always; Own; One(U8); Bytes(0); Bytes(0)), // Ib
+    read!(Bare Reg::Any, Rm::Any; RexW; Name(554); Zero; Bytes(0); Bytes(0)), // Fw
+    read!(Bare Reg::Any, Rm::Any; With66; Name(552); Zero; Bytes(0); Bytes(0)), // Fw
+    read!(Bare Reg::Any, Rm::Any; Always; Name(553); Zero; Bytes(0); Bytes(0)), // Fw
+    read!(Bare Reg::Any, Rm::Any; With67; Name(555); One(I8); Bytes(0); Bytes(0)), // CXZ
+    read!(Bare Reg::Any, Rm::Any; Always; Own; One(I8); Bytes(0); Bytes(0)), // CXZ
+    read!(Bare Reg::Any, Rm::Any; Always; Own; Two(A(B), U8); Bytes(0); Bytes(0)), // AL_Ib
+    read!(Bare Reg::Any, Rm::Any; Always; Own; Two(A(Vd), U8); Bytes(0); Bytes(0)), // AX_Ib
+    read!(Bare Reg::Any, Rm::Any; Always; Own; Two(U8, A(B)); Bytes(0); Bytes(0)), // Ib_AL
+    read!(Bare Reg::Any, Rm::Any; Always; Own; Two(U8, A(Vd)); Bytes(0); Bytes(0)), // Ib_AX
+    read!(Bare Reg::Any, Rm::Any; Always; Own; One(I32); Named(Size::Call); Named(Size::Call)), // Jvds
+    read!(Bare Reg::Any, Rm::Any; Always; Own; Two(A(B), Implied(RegisterSlot::Rm, 2, RegisterClass::W)); Bytes(0); Bytes(0)), // AL_DX
+    read!(Bare Reg::Any, Rm::Any; Always; Own; Two(A(Vd), Implied(RegisterSlot::Rm, 2, RegisterClass::W)); Bytes(0); Bytes(0)), // AX_DX
+    read!(Bare Reg::Any, Rm::Any; Always; Own; Two(Implied(RegisterSlot::Rm, 2, RegisterClass::W), A(B)); Bytes(0); Bytes(0)), // DX_AL
+    read!(Bare Reg::Any, Rm::Any; Always; Own; Two(Implied(RegisterSlot::Rm, 2, RegisterClass::W), A(Vd)); Bytes(0); Bytes(0)), // DX_AX
+    read!(Bare Reg::Any, Rm::Any; Always; Own; One(UNSIGNED_ONE); Bytes(0); Bytes(0)), // I_1
+    read!(Either Reg::Any, Rm::Any; Always; Own; Two(G(V), E(V)); Bytes(2); Of(V)), // Gv_Ew_LAR
+    read!(Either Reg::Any, Rm::Any; Always; Own; Two(G(V), E(Vd)); Bytes(2); Of(V)), // Gv_Ew_LSL
+    read!(Either Reg::Any, Rm::Any; Always; Own; One(E(V)); Of(V); Of(V)), // Ev
+    read!(Either Reg::Any, Rm::Any; Always; Own; One(E(B)); Bytes(1); Bytes(1)), // Eb_R0
+    read!(Bare Reg::Any, Rm::Any; Always; Own; One(Implied(RegisterSlot::Reg, 4, RegisterClass::S)); Bytes(8); Bytes(8)), // FS
+    read!(Either Reg::Any, Rm::Any; Always; Own; Three(E(V), G(V), I8); Of(V); Of(V)), // Ev_Gv_Ib
+    read!(Either Reg::Any, Rm::Any; Always; Own; Three(E(V), G(V), Implied(RegisterSlot::Third, 1, RegisterClass::B)); Of(V); Of(V)), // Ev_Gv_CL
+    read!(Bare Reg::Any, Rm::Any; Always; Own; One(Implied(RegisterSlot::Reg, 5, RegisterClass::S)); Bytes(8); Bytes(8)), // GS
+    read!(Memory Reg::Any, Rm::Any; Opcode(128); Own; Two(G(V), M); FarPointer; FarPointer), // INV_Gv_M
+    read!(Memory Reg::Any, Rm::Any; Opcode(129); Own; Two(G(V), M); FarPointer; FarPointer), // INV_Gv_M
+    read!(Memory Reg::Any, Rm::Any; Opcode(127); Own; Two(G(V), M); FarPointer; FarPointer), // INV_Gv_M
+    read!(Memory Reg::Any, Rm::Any; Opcode(391); Own; Two(G(Q), M); Bytes(64); Bytes(64)), // INV_Gv_M
+    read!(Memory Reg::Any, Rm::Any; Opcode(389); Own; Two(G(Q), M); Bytes(64); Bytes(64)), // INV_Gv_M
+    read!(Memory Reg::Any, Rm::Any; Always; Own; Two(G(Q), M); Bytes(16); Bytes(16)), // INV_Gv_M
+    refusal!(Either Reg::Any, Rm::Any; Always; Zero; BadOperand AtModRM), // INV_Gv_M
+    read!(Either Reg::Any, Rm::Any; Always; Own; Two(G(V), E(B)); Bytes(1); Bytes(0)), // Gv_Eb
+    read!(Either Reg::Any, Rm::Any; Always; Own; Two(G(V), E(W)); Bytes(2); Bytes(0)), // Gv_Ew
+    read!(Either Reg::Any, Rm::Any; Always; Own; Two(G(D), E(D)); Bytes(4); Of(V)), // Gd_Ed
+    read!(Either Reg::Any, Rm::Any; Always; Own; Two(Gmm, Emm); Named(Size::Unpack); Of(V)), // G_E_mm
+    read!(Either Reg::Any, Rm::Any; Always; Own; Two(G(X), E(X)); Named(Size::Duplicate); Of(V)), // G_E_xmm
+    read!(Either Reg::Any, Rm::Any; Always; Own; Two(E(X), G(X)); Bytes(16); Of(V)), // E_G_xmm
+    read!(Memory Reg::Any, Rm::Any; Always; Own; Two(M, G(X)); Named(Size::Stream); Named(Size::Stream)), // M_G_xmm
+    refusal!(Either Reg::Any, Rm::Any; Always; Two(M, G(X)); BadOperand AtModRM), // M_G_xmm
+    read!(Either Reg::Any, Rm::Any; Always; Own; Two(G(X), Emm); Bytes(8); Of(V)), // G_xmm_E_mm
+    read!(Either Reg::Any, Rm::Any; Always; Own; Two(Gmm, E(X)); Bytes(16); Of(V)), // G_mm_E_xmm
+    refusal!(Register Reg::Any, Rm::Any; Opcode(237); Two(G(X), E(X)); BadOperand AtModRM), // PMOVX_G_E_xmm
+    refusal!(Register Reg::Any, Rm::Any; Opcode(238); Two(G(X), E(X)); BadOperand AtModRM), // PMOVX_G_E_xmm
+    read!(Either Reg::Any, Rm::Any; Always; Own; Two(G(X), E(X)); Named(Size::Extend); Of(V)), // PMOVX_G_E_xmm
+    read!(Register Reg::Any, Rm::Any; Always; Own; Two(G(D), U(X)); Of(V); Of(V)), // Gd_U_xmm
+    refusal!(Either Reg::Any, Rm::Any; Always; Two(G(D), U(X)); BadOperand AfterAddress), // Gd_U_xmm
+    read!(Either Reg::Any, Rm::Any; Always; Own; Two(Gmm, E(Dq)); Of(V); Of(V)), // G_mm_Edq
+    read!(Either Reg::Any, Rm::Any; Always; Own; Two(Gmm, Emm); Bytes(8); Of(V)), // G_mm_E
+    read!(Either Reg::Any, Rm::Any; Always; Own; Three(Gmm, Emm, I8); Bytes(8); Bytes(0)), // G_E_mm_Ib
+    read!(Either Reg::Any, Rm::Any; Always; Own; Two(E(Q), G(Q)); Bytes(8); Of(V)), // E_G_q
+    read!(Either Reg::Any, Rm::Any; Always; Own; Two(G(Q), E(Q)); Bytes(8); Of(V)), // G_E_q
+    read!(Either Reg::Any, Rm::Any; Always; Own; Two(E(Dq), Gmm); Of(Dq); Of(V)), // Edq_G_mm
+    read!(Either Reg::Any, Rm::Any; Always; Own; Two(Emm, Gmm); Bytes(8); Of(V)), // E_G_mm
+    read!(Either Reg::Any, Rm::Any; Always; Own; Three(G(X), E(X), I8); Named(Size::Scalar); Of(V)), // G_E_xmm_Ib
+    read!(Memory Reg::Any, Rm::Any; Always; Own; Two(M, G(Dq)); Of(Dq); Of(Dq)), // Mdq_Gdq
+    refusal!(Either Reg::Any, Rm::Any; Always; Two(M, G(Dq)); BadOperand AtModRM), // Mdq_Gdq
+    read!(Either Reg::Any, Rm::Any; Always; Own; Three(Gmm, E(D), I8); Bytes(2); Of(V)), // G_mm_Ew_Ib
+    read!(Register Reg::Any, Rm::Any; Always; Own; Three(G(D), Umm, U8); Of(V); Of(V)), // Rv_Gmm_Ib
+    refusal!(Either Reg::Any, Rm::Any; Always; Three(G(D), Umm, U8); BadOperand AfterSuffix), // Rv_Gmm_Ib
+    read!(Register Reg::Any, Rm::Any; Always; Own; Two(G(D), Umm); Of(V); Of(V)), // G_U_mm
+    refusal!(Either Reg::Any, Rm::Any; Always; Two(G(D), Umm); BadOperand AfterAddress), // G_U_mm
+    read!(Memory Reg::Any, Rm::Any; Always; Own; Two(M, Gmm); Bytes(8); Bytes(8)), // G_Mq_mm
+    refusal!(Either Reg::Any, Rm::Any; Always; Two(M, Gmm); BadOperand AtModRM), // G_Mq_mm
+    read!(Register Reg::Any, Rm::Any; Always; Own; Two(Gmm, Umm); Bytes(8); Bytes(8)), // G_mm_U_mm
+    refusal!(Either Reg::Any, Rm::Any; Always; Two(Gmm, Umm); BadOperand AfterAddress), // G_mm_U_mm
+    read!(Either Reg::Any, Rm::Any; Always; Own; Two(G(X), E(Dq)); Of(V); Of(V)), // G_xmm_Edq
+    read!(Register Reg::Any, Rm::Any; Always; Own; Two(G(X), U(X)); Of(V); Of(V)), // G_U_xmm
+    refusal!(Either Reg::Any, Rm::Any; Always; Two(G(X), U(X)); BadOperand AfterAddress), // G_U_xmm
+    read!(Either Reg::Any, Rm::Any; RexW; Name(220); Two(E(Dq), G(X)); Of(Dq); Of(V)), // Edq_G_xmm
+    read!(Either Reg::Any, Rm::Any; Always; Own; Two(E(Dq), G(X)); Of(Dq); Of(V)), // Edq_G_xmm
+    read!(Either Reg::Any, Rm::Any; Always; Own; Three(G(X), E(D), U8); Bytes(2); Of(V)), // G_xmm_Ew_Ib
+    read!(Register Reg::Any, Rm::Any; Always; Own; Three(G(D), U(X), U8); Of(V); Of(V)), // G_U_xmm_Ub
+    refusal!(Either Reg::Any, Rm::Any; Always; Three(G(D), U(X), U8); BadOperand AfterAddress), // G_U_xmm_Ub
+    read!(Either Reg::Any, Rm::Any; Always; Own; Two(E(X), G(X)); Bytes(8); Of(V)), // PMOVX_E_G_xmm
+    read!(Register Reg::Any, Rm::Any; Always; Own; Two(G(X), U(X)); Bytes(16); Bytes(16)), // MASKMOVDQU
+    refusal!(Either Reg::Any, Rm::Any; Always; Two(G(X), U(X)); BadOperand AfterAddress), // MASKMOVDQU
+    read!(Either Reg::Any, Rm::Any; Always; Own; Two(G(X), E(X)); Bytes(4); Of(V)), // G_Ed_xmm
+    read!(Either Reg::Any, Rm::Any; Always; Own; Two(E(X), G(X)); Bytes(4); Of(V)), // Ed_G_xmm
+    read!(Either Reg::Any, Rm::Any; Always; Own; Two(G(V), E(X)); Bytes(4); Of(V)), // Gv_E_xmm
+    read!(Either Reg::Any, Rm::Any; Always; Own; Two(G(X), E(X)); Bytes(8); Of(V)), // MOVQ_f30f
+    read!(Register Reg::Any, Rm::Any; Always; Own; Two(G(X), Umm); Of(V); Of(V)), // G_xmm_U_mm
+    refusal!(Either Reg::Any, Rm::Any; Always; Two(G(X), Umm); BadOperand AfterAddress), // G_xmm_U_mm
+    read!(Either Reg::Any, Rm::Any; Always; Own; Two(G(V), E(X)); Bytes(8); Of(V)), // Gdq_Eq_xmm
+    read!(Register Reg::Any, Rm::Any; Always; Own; Two(Gmm, U(X)); Of(V); Of(V)), // G_mm_U_xmm
+    refusal!(Either Reg::Any, Rm::Any; Always; Two(Gmm, U(X)); BadOperand AfterAddress), // G_mm_U_xmm
+    read!(Memory Reg::Any, Rm::Any; Always; Own; Two(G(X), M); Bytes(16); Bytes(16)), // G_M_xmm
+    refusal!(Either Reg::Any, Rm::Any; Always; Two(G(X), M); BadOperand AtModRM), // G_M_xmm
+    read!(Memory Reg::Any, Rm::Any; Always; Own; Two(M, G(V)); Of(V); Of(V)), // M_Gv
+    refusal!(Either Reg::Any, Rm::Any; Always; Two(M, G(V)); BadOperand AtModRM), // M_Gv
+    read!(Memory Reg::Any, Rm::Any; With67; Own; Two(G(D), M); Bytes(64); Bytes(64)), // MOVDIR64B
+    read!(Memory Reg::Any, Rm::Any; Always; Own; Two(G(Q), M); Bytes(64); Bytes(64)), // MOVDIR64B
+    refusal!(Either Reg::Any, Rm::Any; Always; Zero; BadOperand AtModRM), // MOVDIR64B
+    read!(Either Reg::Any, Rm::Any; Always; Own; Two(G(Dq), E(V)); Bytes(4); Of(V)), // Gdq_Ev
+    read!(Either Reg::Any, Rm::Any; Always; Own; Three(G(X), E(X), U8); Bytes(16); Of(V)), // G_E_xmm_Ub
+    read!(Either Reg::Any, Rm::Any; Always; Own; Three(E(V), G(X), U8); Named(Size::Extract); Named(Size::Extract)), // Ev_G_xmm_Ib
+    read!(Either Reg::Any, Rm::Any; RexW; Name(577); Three(E(V), G(X), U8); Of(Dq); Of(Dq)), // Pextr_dq
+    read!(Either Reg::Any, Rm::Any; Always; Name(411); Three(E(V), G(X), U8); Of(Dq); Of(Dq)), // Pextr_dq
+    read!(Either Reg::Any, Rm::Any; Always; Own; Three(G(X), E(X), U8); Named(Size::Insert); Of(V)), // G_Ev_xmm_Ib
+    read!(Either Reg::Any, Rm::Any; RexW; Name(599); Three(G(X), E(X), U8); Of(Dq); Of(V)), // Pinsr_dq
+    read!(Either Reg::Any, Rm::Any; Always; Name(414); Three(G(X), E(X), U8); Of(Dq); Of(V)), // Pinsr_dq
 ];
+
+/// The first row of each ordinal, and the one after its last. A form that carries a number has eight ordinals.
+pub(crate) const SPANS: &[(u16, u16); 198] = &[
+    (1, 2), // Zv_R
+    (1, 2), // Zv_R
+    (1, 2), // Zv_R
+    (1, 2), // Zv_R
+    (1, 2), // Zv_R
+    (1, 2), // Zv_R
+    (1, 2), // Zv_R
+    (1, 2), // Zv_R
+    (2, 4), // Zv_AX_R
+    (2, 4), // Zv_AX_R
+    (2, 4), // Zv_AX_R
+    (2, 4), // Zv_AX_R
+    (2, 4), // Zv_AX_R
+    (2, 4), // Zv_AX_R
+    (2, 4), // Zv_AX_R
+    (2, 4), // Zv_AX_R
+    (4, 5), // Zb_Ib_R
+    (4, 5), // Zb_Ib_R
+    (4, 5), // Zb_Ib_R
+    (4, 5), // Zb_Ib_R
+    (4, 5), // Zb_Ib_R
+    (4, 5), // Zb_Ib_R
+    (4, 5), // Zb_Ib_R
+    (4, 5), // Zb_Ib_R
+    (5, 6), // Zv_Ivq_R
+    (5, 6), // Zv_Ivq_R
+    (5, 6), // Zv_Ivq_R
+    (5, 6), // Zv_Ivq_R
+    (5, 6), // Zv_Ivq_R
+    (5, 6), // Zv_Ivq_R
+    (5, 6), // Zv_Ivq_R
+    (5, 6), // Zv_Ivq_R
+    (6, 7), // Zv_B
+    (6, 7), // Zv_B
+    (6, 7), // Zv_B
+    (6, 7), // Zv_B
+    (6, 7), // Zv_B
+    (6, 7), // Zv_B
+    (6, 7), // Zv_B
+    (6, 7), // Zv_B
+    (7, 8), // Eb_Gb
+    (8, 9), // Ev_Gv
+    (9, 10), // Gb_Eb
+    (10, 11), // Gv_Ev
+    (11, 12), // AL_Ibs
+    (12, 13), // AX_Ivd
+    (13, 14), // Gdq_Ed
+    (14, 15), // PushIvs
+    (15, 16), // Gv_Ev_Iv
+    (16, 17), // PushIbs
+    (17, 18), // Gv_Ev_Ib
+    (18, 19), // Yb_DX
+    (19, 21), // Yv_DX
+    (21, 22), // DX_Xb
+    (22, 24), // DX_Xv
+    (24, 25), // Ibs
+    (0, 1), // ModRM_0x80
+    (0, 1), // ModRM_0x81
+    (0, 1), // ModRM_0x83
+    (25, 28), // Ew_Sw
+    (28, 30), // Gv_M
+    (30, 34), // Sw_Ew
+    (0, 1), // ModRM_0x8f
+    (34, 37), // CVT_AA
+    (37, 40), // CVT_DA
+    (40, 41), // Nothing
+    (41, 42), // AH
+    (42, 43), // AL_Ob
+    (43, 44), // AX_Ov
+    (44, 45), // Ob_AL
+    (45, 46), // Ov_AX
+    (46, 48), // Yb_Xb
+    (48, 50), // Yv_Xv
+    (50, 51), // Yb_AL
+    (51, 52), // Yv_AX
+    (52, 53), // AL_Xb
+    (53, 54), // AX_Xv
+    (0, 1), // ModRM_0xc0
+    (0, 1), // ModRM_0xc1
+    (54, 55), // Iw
+    (0, 1), // ModRM_0xc6
+    (0, 1), // ModRM_0xc7
+    (55, 56), // Iw_Ib
+    (56, 57), // I_3
+    (57, 58), // Ib
+    (58, 61), // Fw
+    (0, 1), // ModRM_0xd0
+    (0, 1), // ModRM_0xd1
+    (0, 1), // ModRM_0xd2
+    (0, 1), // ModRM_0xd3
+    (0, 1), // x87_d8
+    (0, 1), // x87_d9
+    (0, 1), // x87_da
+    (0, 1), // x87_db
+    (0, 1), // x87_dc
+    (0, 1), // x87_dd
+    (0, 1), // x87_de
+    (0, 1), // x87_df
+    (61, 63), // CXZ
+    (63, 64), // AL_Ib
+    (64, 65), // AX_Ib
+    (65, 66), // Ib_AL
+    (66, 67), // Ib_AX
+    (67, 68), // Jvds
+    (68, 69), // AL_DX
+    (69, 70), // AX_DX
+    (70, 71), // DX_AL
+    (71, 72), // DX_AX
+    (72, 73), // I_1
+    (0, 1), // ModRM_0xf6
+    (0, 1), // ModRM_0xf7
+    (0, 1), // ModRM_0xfe
+    (0, 1), // ModRM_0xff
+    (0, 1), // ModRM_0x0f00
+    (0, 1), // ModRM_0x0f01
+    (73, 74), // Gv_Ew_LAR
+    (74, 75), // Gv_Ew_LSL
+    (0, 1), // ModRM_0x0f0d
+    (0, 1), // ModRM_0x0f0f
+    (0, 1), // ModRM_0x0f18
+    (75, 76), // Ev
+    (0, 1), // Rq_Cq_0
+    (0, 1), // Rq_Dq_0
+    (0, 1), // Cq_Rq_0
+    (0, 1), // Dq_Rq_0
+    (0, 1), // ModRM_0x0f71
+    (0, 1), // ModRM_0x0f72
+    (0, 1), // ModRM_0x0f73
+    (76, 77), // Eb_R0
+    (77, 78), // FS
+    (78, 79), // Ev_Gv_Ib
+    (79, 80), // Ev_Gv_CL
+    (80, 81), // GS
+    (0, 1), // ModRM_0x0fae
+    (81, 88), // INV_Gv_M
+    (88, 89), // Gv_Eb
+    (89, 90), // Gv_Ew
+    (0, 1), // ModRM_0x0fba
+    (0, 1), // ModRM_0x0fc7
+    (90, 91), // Gd_Ed
+    (91, 92), // G_E_mm
+    (92, 93), // G_E_xmm
+    (93, 94), // E_G_xmm
+    (0, 1), // ModRM_0x0f12
+    (0, 1), // ModRM_0x0f16
+    (94, 96), // M_G_xmm
+    (96, 97), // G_xmm_E_mm
+    (97, 98), // G_mm_E_xmm
+    (98, 101), // PMOVX_G_E_xmm
+    (101, 103), // Gd_U_xmm
+    (103, 104), // G_mm_Edq
+    (104, 105), // G_mm_E
+    (105, 106), // G_E_mm_Ib
+    (106, 107), // E_G_q
+    (107, 108), // G_E_q
+    (108, 109), // Edq_G_mm
+    (109, 110), // E_G_mm
+    (110, 111), // G_E_xmm_Ib
+    (111, 113), // Mdq_Gdq
+    (113, 114), // G_mm_Ew_Ib
+    (114, 116), // Rv_Gmm_Ib
+    (116, 118), // G_U_mm
+    (118, 120), // G_Mq_mm
+    (120, 122), // G_mm_U_mm
+    (122, 123), // G_xmm_Edq
+    (0, 1), // ModRM_0x660f78
+    (123, 125), // G_U_xmm
+    (125, 127), // Edq_G_xmm
+    (127, 128), // G_xmm_Ew_Ib
+    (128, 130), // G_U_xmm_Ub
+    (130, 131), // PMOVX_E_G_xmm
+    (131, 133), // MASKMOVDQU
+    (133, 134), // G_Ed_xmm
+    (134, 135), // Ed_G_xmm
+    (0, 1), // ModRM_0xf30f1e
+    (135, 136), // Gv_E_xmm
+    (136, 137), // MOVQ_f30f
+    (137, 139), // G_xmm_U_mm
+    (139, 140), // Gdq_Eq_xmm
+    (0, 1), // ModRM_0xf20f78
+    (140, 142), // G_mm_U_xmm
+    (142, 144), // G_M_xmm
+    (144, 146), // M_Gv
+    (146, 149), // MOVDIR64B
+    (0, 1), // ModRM_0xf30f38d8
+    (0, 1), // ModRM_0xf30f38dc
+    (0, 1), // ModRM_0xf30f38dd
+    (0, 1), // ModRM_0xf30f38de
+    (0, 1), // ModRM_0xf30f38df
+    (0, 1), // ModRM_0xf30f38fa
+    (0, 1), // ModRM_0xf30f38fb
+    (149, 150), // Gdq_Ev
+    (150, 151), // G_E_xmm_Ub
+    (151, 152), // Ev_G_xmm_Ib
+    (152, 154), // Pextr_dq
+    (154, 155), // G_Ev_xmm_Ib
+    (155, 157), // Pinsr_dq
+    (0, 1), // ModRM_0xf30f3af0
+];
+
+/// All rows, the first one of a form, and the one after its last.
+fn span_of(form: Form) -> (&'static [FormRow], u16, u16)
+    ensures ordered { result.1 ≤ result.2 }
+    ensures inside { result.2 ≤ length result.0.now }
+    ensures rows { take (result.2 - result.1) (drop result.1 result.0.now) ≡ form_rows form }
+{
+    let (first, end) = SPANS[form.first_ordinal() as usize];
+    (ROWS, first, end)
+}
 
 /// The rows of a form.
-#[tactic(auto, unfolding(crate::specs::Rows::form_rows))]
 pub(crate) fn form_rows(form: Form) -> &'static [FormRow]
     ensures { result.now ≡ form_rows form }
 {
-    match form {
-        Form::Zv_R(_) => ROWS_ZV_R,
-        Form::Zb_Ib_R(_) => ROWS_ZB_IB_R,
-        Form::Zv_Ivq_R(_) => ROWS_ZV_IVQ_R,
-        Form::Zv_B(_) => ROWS_ZV_B,
-        Form::Nothing => ROWS_NOTHING,
-        Form::Ibs => ROWS_IBS,
-        Form::Jvds => ROWS_JVDS,
-        Form::PushIbs => ROWS_PUSHIBS,
-        Form::PushIvs => ROWS_PUSHIVS,
-        Form::Ib => ROWS_IB,
-        Form::I_3 => ROWS_I_3,
-        Form::I_1 => ROWS_I_1,
-        Form::Iw => ROWS_IW,
-        Form::AH => ROWS_AH,
-        Form::AL_Ibs => ROWS_AL_IBS,
-        Form::AX_Ivd => ROWS_AX_IVD,
-        Form::AL_Ib => ROWS_AL_IB,
-        Form::AX_Ib => ROWS_AX_IB,
-        Form::Ib_AL => ROWS_IB_AL,
-        Form::Ib_AX => ROWS_IB_AX,
-        Form::Zv_AX_R(_) => ROWS_ZV_AX_R,
-        Form::CVT_AA => ROWS_CVT_AA,
-        Form::CVT_DA => ROWS_CVT_DA,
-        Form::Fw => ROWS_FW,
-        Form::CXZ => ROWS_CXZ,
-        Form::FS => ROWS_FS,
-        Form::GS => ROWS_GS,
-        Form::Iw_Ib => ROWS_IW_IB,
-        Form::AL_DX => ROWS_AL_DX,
-        Form::AX_DX => ROWS_AX_DX,
-        Form::DX_AL => ROWS_DX_AL,
-        Form::DX_AX => ROWS_DX_AX,
-        Form::AL_Ob => ROWS_AL_OB,
-        Form::AX_Ov => ROWS_AX_OV,
-        Form::Ob_AL => ROWS_OB_AL,
-        Form::Ov_AX => ROWS_OV_AX,
-        Form::AL_Xb => ROWS_AL_XB,
-        Form::AX_Xv => ROWS_AX_XV,
-        Form::Yb_AL => ROWS_YB_AL,
-        Form::Yv_AX => ROWS_YV_AX,
-        Form::Yb_Xb => ROWS_YB_XB,
-        Form::Yv_Xv => ROWS_YV_XV,
-        Form::Yb_DX => ROWS_YB_DX,
-        Form::Yv_DX => ROWS_YV_DX,
-        Form::DX_Xb => ROWS_DX_XB,
-        Form::DX_Xv => ROWS_DX_XV,
-        Form::Eb_Gb => ROWS_EB_GB,
-        Form::Gb_Eb => ROWS_GB_EB,
-        Form::Ev_Gv => ROWS_EV_GV,
-        Form::Gv_Ev => ROWS_GV_EV,
-        Form::Gv_M => ROWS_GV_M,
-        Form::M_Gv => ROWS_M_GV,
-        Form::Eb_R0 => ROWS_EB_R0,
-        Form::Ev => ROWS_EV,
-        Form::Gv_Eb => ROWS_GV_EB,
-        Form::Gv_Ew => ROWS_GV_EW,
-        Form::Gdq_Ed => ROWS_GDQ_ED,
-        Form::Gd_Ed => ROWS_GD_ED,
-        Form::Gdq_Ev => ROWS_GDQ_EV,
-        Form::Gv_Ev_Ib => ROWS_GV_EV_IB,
-        Form::Gv_Ev_Iv => ROWS_GV_EV_IV,
-        Form::Ev_Gv_Ib => ROWS_EV_GV_IB,
-        Form::Ev_Gv_CL => ROWS_EV_GV_CL,
-        Form::Gv_Ew_LAR => ROWS_GV_EW_LAR,
-        Form::Gv_Ew_LSL => ROWS_GV_EW_LSL,
-        Form::Mdq_Gdq => ROWS_MDQ_GDQ,
-        Form::G_E_q => ROWS_G_E_Q,
-        Form::E_G_q => ROWS_E_G_Q,
-        Form::G_E_xmm => ROWS_G_E_XMM,
-        Form::E_G_xmm => ROWS_E_G_XMM,
-        Form::G_Ed_xmm => ROWS_G_ED_XMM,
-        Form::Ed_G_xmm => ROWS_ED_G_XMM,
-        Form::G_M_xmm => ROWS_G_M_XMM,
-        Form::M_G_xmm => ROWS_M_G_XMM,
-        Form::G_E_xmm_Ib => ROWS_G_E_XMM_IB,
-        Form::G_E_xmm_Ub => ROWS_G_E_XMM_UB,
-        Form::PMOVX_G_E_xmm => ROWS_PMOVX_G_E_XMM,
-        Form::PMOVX_E_G_xmm => ROWS_PMOVX_E_G_XMM,
-        Form::MOVQ_f30f => ROWS_MOVQ_F30F,
-        Form::Gdq_Eq_xmm => ROWS_GDQ_EQ_XMM,
-        Form::Gv_E_xmm => ROWS_GV_E_XMM,
-        Form::Gd_U_xmm => ROWS_GD_U_XMM,
-        Form::G_U_xmm => ROWS_G_U_XMM,
-        Form::MASKMOVDQU => ROWS_MASKMOVDQU,
-        Form::G_U_xmm_Ub => ROWS_G_U_XMM_UB,
-        Form::Ev_G_xmm_Ib => ROWS_EV_G_XMM_IB,
-        Form::G_Ev_xmm_Ib => ROWS_G_EV_XMM_IB,
-        Form::G_xmm_Ew_Ib => ROWS_G_XMM_EW_IB,
-        Form::G_xmm_Edq => ROWS_G_XMM_EDQ,
-        Form::G_xmm_E_mm => ROWS_G_XMM_E_MM,
-        Form::G_mm_E_xmm => ROWS_G_MM_E_XMM,
-        Form::G_xmm_U_mm => ROWS_G_XMM_U_MM,
-        Form::G_mm_U_xmm => ROWS_G_MM_U_XMM,
-        Form::G_U_mm => ROWS_G_U_MM,
-        Form::G_E_mm => ROWS_G_E_MM,
-        Form::G_mm_E => ROWS_G_MM_E,
-        Form::E_G_mm => ROWS_E_G_MM,
-        Form::G_E_mm_Ib => ROWS_G_E_MM_IB,
-        Form::G_mm_Edq => ROWS_G_MM_EDQ,
-        Form::Edq_G_mm => ROWS_EDQ_G_MM,
-        Form::G_Mq_mm => ROWS_G_MQ_MM,
-        Form::G_mm_U_mm => ROWS_G_MM_U_MM,
-        Form::G_mm_Ew_Ib => ROWS_G_MM_EW_IB,
-        Form::Ew_Sw => ROWS_EW_SW,
-        Form::Sw_Ew => ROWS_SW_EW,
-        Form::INV_Gv_M => ROWS_INV_GV_M,
-        Form::MOVDIR64B => ROWS_MOVDIR64B,
-        Form::Pextr_dq => ROWS_PEXTR_DQ,
-        Form::Pinsr_dq => ROWS_PINSR_DQ,
-        Form::Edq_G_xmm => ROWS_EDQ_G_XMM,
-        Form::Rv_Gmm_Ib => ROWS_RV_GMM_IB,
-        Form::ModRM_0x80 => LEFT_OUT,
-        Form::ModRM_0x81 => LEFT_OUT,
-        Form::ModRM_0x83 => LEFT_OUT,
-        Form::ModRM_0x8f => LEFT_OUT,
-        Form::ModRM_0xc0 => LEFT_OUT,
-        Form::ModRM_0xc1 => LEFT_OUT,
-        Form::ModRM_0xc6 => LEFT_OUT,
-        Form::ModRM_0xc7 => LEFT_OUT,
-        Form::ModRM_0xd0 => LEFT_OUT,
-        Form::ModRM_0xd1 => LEFT_OUT,
-        Form::ModRM_0xd2 => LEFT_OUT,
-        Form::ModRM_0xd3 => LEFT_OUT,
-        Form::x87_d8 => LEFT_OUT,
-        Form::x87_d9 => LEFT_OUT,
-        Form::x87_da => LEFT_OUT,
-        Form::x87_db => LEFT_OUT,
-        Form::x87_dc => LEFT_OUT,
-        Form::x87_dd => LEFT_OUT,
-        Form::x87_de => LEFT_OUT,
-        Form::x87_df => LEFT_OUT,
-        Form::ModRM_0xf6 => LEFT_OUT,
-        Form::ModRM_0xf7 => LEFT_OUT,
-        Form::ModRM_0xfe => LEFT_OUT,
-        Form::ModRM_0xff => LEFT_OUT,
-        Form::ModRM_0x0f00 => LEFT_OUT,
-        Form::ModRM_0x0f01 => LEFT_OUT,
-        Form::ModRM_0x0f0d => LEFT_OUT,
-        Form::ModRM_0x0f0f => LEFT_OUT,
-        Form::ModRM_0x0f18 => LEFT_OUT,
-        Form::Rq_Cq_0 => LEFT_OUT,
-        Form::Rq_Dq_0 => LEFT_OUT,
-        Form::Cq_Rq_0 => LEFT_OUT,
-        Form::Dq_Rq_0 => LEFT_OUT,
-        Form::ModRM_0x0f71 => LEFT_OUT,
-        Form::ModRM_0x0f72 => LEFT_OUT,
-        Form::ModRM_0x0f73 => LEFT_OUT,
-        Form::ModRM_0x0fae => LEFT_OUT,
-        Form::ModRM_0x0fba => LEFT_OUT,
-        Form::ModRM_0x0fc7 => LEFT_OUT,
-        Form::ModRM_0x0f12 => LEFT_OUT,
-        Form::ModRM_0x0f16 => LEFT_OUT,
-        Form::ModRM_0x660f78 => LEFT_OUT,
-        Form::ModRM_0xf30f1e => LEFT_OUT,
-        Form::ModRM_0xf20f78 => LEFT_OUT,
-        Form::ModRM_0xf30f38d8 => LEFT_OUT,
-        Form::ModRM_0xf30f38dc => LEFT_OUT,
-        Form::ModRM_0xf30f38dd => LEFT_OUT,
-        Form::ModRM_0xf30f38de => LEFT_OUT,
-        Form::ModRM_0xf30f38df => LEFT_OUT,
-        Form::ModRM_0xf30f38fa => LEFT_OUT,
-        Form::ModRM_0xf30f38fb => LEFT_OUT,
-        Form::ModRM_0xf30f3af0 => LEFT_OUT,
-    }
+    let (rows, first, end) = span_of(form);
+    &rows[first as usize..end as usize]
 }
