@@ -7,7 +7,7 @@ import re
 import sys
 from pathlib import Path
 
-from form_rows import GROUPS, PLAIN, rows_of
+from form_rows import CARRIED, GROUPS, PLAIN, rows_of
 
 FORMS = Path(__file__).resolve().parent.parent / "crates" / "x86_forms"
 # the groups that reg chooses, in the order of `RegGroup`
@@ -102,7 +102,7 @@ def lines(forms):
                 written = line(rows[form])
             except Separate:
                 written = NONE if rows[form][0].place == "Bare" else "other!(ByPlan(ModrmUse::EitherForm))"
-        answer += [f"    {written}, // {form}"] * (8 if carries else 1)
+        answer += [f"    {written}, // {form}"] * (CARRIED if carries else 1)
     return answer
 
 
