@@ -190,6 +190,13 @@ def rows_of(function):
     return {form or "f": checked(function, form, [*rows_in(body.strip())]) for form, body in found}
 
 
+@functools.cache
+def without_mod():
+    """The groups of which every mod is a register form."""
+    text = (CRATES / "x86_groups" / "specs" / "Groups.antt").read_text()
+    return {*re.findall(r"^group_modrm form\.(\w+) = Registers$", text, re.M)}
+
+
 def name_of(form):
     return re.sub(r"^(ModRM_0x|x87_)", "", form)
 
@@ -207,7 +214,8 @@ def checked(function, form, rows):
     """The rows of a form, if each is reached, there is always one, and all have a ModRM byte or none has."""
     name = f"{function.removesuffix('_rows')} {name_of(form)}"
     reached, gap = set(), False
-    for memory, reg, rm, strict, marks in product([True, False], range(8), range(8), [True, False], [*states(rows)]):
+    forms_of_modrm = [False] if form in without_mod() else [True, False]
+    for memory, reg, rm, strict, marks in product(forms_of_modrm, range(8), range(8), [True, False], [*states(rows)]):
         here = next((at for at, each in enumerate(rows) if each.holds(memory, reg, rm, strict, marks)), None)
         reached.add(here)
         gap = gap or here is None

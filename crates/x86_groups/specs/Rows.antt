@@ -119,12 +119,10 @@ group_rows form.Cq_Rq_0 =
     otherwise BadOperand AtModRM ∷ []
 group_rows form.Rq_Dq_0 =
     refusal reg RexR BadOperand AtModRM ∷
-    read reg Always Own (Two (U Q) Dr) (size 0) ∷
-    otherwise BadOperand AtModRM ∷ []
+    read reg Always Own (Two (U Q) Dr) (size 0) ∷ []
 group_rows form.Dq_Rq_0 =
     refusal reg RexR BadOperand AtModRM ∷
-    read reg Always Own (Two Dr (U Q)) (size 0) ∷
-    otherwise BadOperand AtModRM ∷ []
+    read reg Always Own (Two Dr (U Q)) (size 0) ∷ []
 -- groups 12, 13 and 14
 group_rows form.ModRM_0x0f71 =
     read reg Only66 (by_reg none none PSRLW none PSRAW none PSLLW none) (Two (U X) (Last U8)) size_v ∷

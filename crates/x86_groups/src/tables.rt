@@ -171,16 +171,14 @@ const ROWS_CQ_RQ_0: &[FormRow; 4] = &[
     refusal!(Either Reg::Any, Rm::Any; Always; Zero; BadOperand AtModRM),
 ];
 
-const ROWS_RQ_DQ_0: &[FormRow; 3] = &[
+const ROWS_RQ_DQ_0: &[FormRow; 2] = &[
     refusal!(Register Reg::Any, Rm::Any; RexR; Zero; BadOperand AtModRM),
     read!(Register Reg::Any, Rm::Any; Always; Own; Two(U(Q), Dr); Bytes(0); Bytes(0)),
-    refusal!(Either Reg::Any, Rm::Any; Always; Zero; BadOperand AtModRM),
 ];
 
-const ROWS_DQ_RQ_0: &[FormRow; 3] = &[
+const ROWS_DQ_RQ_0: &[FormRow; 2] = &[
     refusal!(Register Reg::Any, Rm::Any; RexR; Zero; BadOperand AtModRM),
     read!(Register Reg::Any, Rm::Any; Always; Own; Two(Dr, U(Q)); Bytes(0); Bytes(0)),
-    refusal!(Either Reg::Any, Rm::Any; Always; Zero; BadOperand AtModRM),
 ];
 
 const ROWS_0F71: &[FormRow; 4] = &[

@@ -1,0 +1,91 @@
+#!/usr/bin/env python3
+"""worked.py: names each row of a form, and each of eight names in a row, that no worked line of x86_vectors reaches.
+
+The proof holds rows against what their columns mean (specs/Columns.antt of x86_operands), and the code has the same
+columns. What they mean is held against the manual by worked lines: of each row one that reaches it, with the answer that
+the manual has. The script finds the row itself, from the prefixes and the opcode byte of a line (Intel SDM volume 2,
+section 2.1). The status is 0 where there is none."""
+
+import re
+import sys
+
+import form_rows
+import tables
+
+VECTORS = tables.TOP / "crates" / "x86_vectors" / "src"
+LINE = re.compile(r'^(?:.*")?((?:[0-9a-f]{2} ?)+) => ', re.M)
+MARKS = {0xF2: "F2", 0xF3: "F3", 0x66: "66", 0x67: "67"}
+PREFIXES = {*MARKS, 0xF0, 0x26, 0x2E, 0x36, 0x3E, 0x64, 0x65}
+REX = range(0x40, 0x50)
+ESCAPES = {(0x0F,): "Of", (0x0F, 0x38): "Of38", (0x0F, 0x3A): "Of3a"}
+COLUMNS = {"F2": "F2", "F3": "F3", "66": "P66"}
+
+
+def prefixes(encoding):
+    """The marks of the prefixes, whether B of a live REX is there, and what follows. Of F2 and F3 the last counts."""
+    marks, rex, at = set(), 0, 0
+    while at < len(encoding) and (encoding[at] in PREFIXES or encoding[at] in REX):
+        rex = encoding[at] if encoding[at] in REX else 0
+        if encoding[at] in (0xF2, 0xF3):
+            marks -= {"F2", "F3"}
+        marks.update({MARKS[encoding[at]]} if encoding[at] in MARKS else [])
+        at += 1
+    marks.update(mark for mark, bit in (("W", 8), ("R", 4)) if rex & bit)
+    return marks, bool(rex & 1), encoding[at:]
+
+
+def opcode_map(rest):
+    """The opcode map, and what follows its escape."""
+    escapes = [escape for escape in ESCAPES if rest[: len(escape)] == bytes(escape)]
+    longest = max(escapes, key=len, default=())
+    return ESCAPES.get(longest, "One"), rest[len(longest) :]
+
+
+def found(encoding, maps):
+    """The form of an encoding, the marks that its rows go by, and ModRM: C0 where there is none."""
+    marks, has_b, rest = prefixes(encoding)
+    of, rest = opcode_map(rest)
+    column = next((COLUMNS[mark] for mark in COLUMNS if mark in marks), "Plain")
+    for columns, byte, opcode, form, number in maps[of] if rest else []:
+        if byte == rest[0] and tables.has_column(columns, column):
+            marks.add(f"opcode.{opcode}")
+            marks.update([] if number or has_b else ["register 0"])
+            return form, marks, rest[1] if len(rest) > 1 else 0xC0
+    return None
+
+
+def reached(rows, form, modrm, marks):
+    """The rows that hold at a ModRM byte, one for each choice, and the place in its eight names."""
+    mod, reg, rm = modrm >> 6, modrm >> 3 & 7, modrm & 7
+    for strict in (False, True):
+        memory = mod < 3 and form not in form_rows.without_mod()
+        each = next(each for each in rows if each.holds(memory, reg, rm, strict, marks))
+        place = {"by_reg": reg, "by_rm": rm}.get(each.names[0]) if isinstance(each.names, list) else None
+        yield form, rows.index(each), place
+
+
+def wanted(rows, form):
+    """What of a form is to be reached: each row, and each of eight names that it has."""
+    for at, each in enumerate(rows):
+        names = each.names[1:] if isinstance(each.names, list) and each.names[0] != "Name" else []
+        places = [place for place, name in enumerate(names) if name != "none"] or [None]
+        yield from ((form, at, place) for place in places)
+
+
+def main():
+    every = {**form_rows.rows_of(form_rows.PLAIN), **form_rows.rows_of(form_rows.GROUPS)}
+    every.pop("f")
+    maps, here = tables.rows(), set()
+    for encoding in (bytes.fromhex(text) for path in VECTORS.glob("*.rt") for text in LINE.findall(path.read_text())):
+        if row := found(encoding, maps):
+            form, marks, modrm = row
+            here.update(reached(every[form], form, modrm, marks))
+    missed = [each for form, rows in every.items() for each in wanted(rows, form) if each not in here]
+    for form, at, place in missed:
+        name = "" if place is None else f", its name {every[form][at].names[1:][place]}"
+        print(f"worked.py: no worked line reaches a row of {form}: {every[form][at].text}{name}")
+    return 1 if missed else 0
+
+
+if __name__ == "__main__":
+    sys.exit(main())
