@@ -7,7 +7,7 @@ import re
 import sys
 from pathlib import Path
 
-from form_rows import CARRIED, GROUPS, PLAIN, rows_of
+from form_rows import CARRIED, GROUPS, PLAIN, noted, rows_of
 
 FORMS = Path(__file__).resolve().parent.parent / "crates" / "x86_forms"
 # the groups that reg chooses, in the order of `RegGroup`
@@ -107,17 +107,17 @@ def lines(forms):
 
 
 def reg_line(rows, reg, numbers):
-    """The line of a reg, if reg alone chooses its row, or if 66 chooses between the two sizes of PUSH."""
+    """The line of a reg with its name, if reg alone chooses its row, or if 66 chooses between the two sizes of PUSH."""
     here = [each for each in rows if each.is_at(reg) and each.is_named(reg, 0)]
     first = here[0]
     if first.error or first.place != "Either":
-        return "rows_alone!()"
-    number = numbers[first.names[1 + reg] if first.names[0] == "by_reg" else first.names[1]]
+        return "rows_alone!()", ""
+    name = first.names[1 + reg] if first.names[0] == "by_reg" else first.names[1]
     if first.when == "Always":
-        return f"line!({number} {encoding('EitherForm', first.operands, map(size, first.sizes))})"
+        return f"line!({numbers[name]} {encoding('EitherForm', first.operands, map(size, first.sizes))})", name
     if first.when == "With66" and here[1].when == "Always" and [first.sizes, here[1].sizes] == [("Bytes(2)",) * 2, ("Bytes(8)",) * 2]:
-        return f"line!({number} {encoding('EitherForm', first.operands, ['Push'] * 2)})"
-    return "rows_alone!()"
+        return f"line!({numbers[name]} {encoding('EitherForm', first.operands, ['Push'] * 2)})", name
+    return "rows_alone!()", ""
 
 
 def reg_lines(numbers):
@@ -126,5 +126,6 @@ def reg_lines(numbers):
     lines = ["", "/// The line of each reg, for the groups in the order of `RegGroup`."]
     lines += [f"pub(crate) const REG_LINES: &[[RegLine; 8]; {len(BY_REG)}] = &["]
     for name in BY_REG:
-        lines += ["    ["] + [f"        {reg_line(rows[f'ModRM_0x{name}'], reg, numbers)}," for reg in range(8)] + [f"    ], // {name.upper()}"]
+        here = [reg_line(rows[f"ModRM_0x{name}"], reg, numbers) for reg in range(8)]
+        lines += ["    [", *(f"        {noted(*each)}" for each in here), f"    ], // {name.upper()}"]
     return lines + ["];"]

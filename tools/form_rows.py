@@ -276,8 +276,21 @@ def entry(each, numbers):
     return f"read!({at}; {names(each.names, numbers)}; {operands}; {'; '.join(each.sizes)}{change})"
 
 
-def array(name, entries):
-    return ["", f"const {name}: &[FormRow; {len(entries)}] = &[", *(f"    {each}," for each in entries), "];"]
+def spelled(each):
+    """The names that a row has as numbers."""
+    named = each.names[1:] if isinstance(each.names, list) else []
+    named = named + (each.when[1:] if isinstance(each.when, list) else [])
+    return " ".join("-" if name == "none" else name for name in named)
+
+
+def noted(text, note):
+    """A line of a table with a comment, if there is one."""
+    return f"{text}, // {note}" if note else f"{text},"
+
+
+def array(name, entries, notes):
+    lines = (f"    {noted(*each)}" for each in zip(entries, notes))
+    return ["", f"const {name}: &[FormRow; {len(entries)}] = &[", *lines, "];"]
 
 
 def in_order(words):
@@ -318,14 +331,14 @@ def imports(crate, constants, entries, others):
     return [*use_lines(of)]
 
 
-def by_ordinal(forms, every, left_out):
+def by_ordinal(forms, every, notes, left_out):
     """The function from a plain form to its rows: a table of all rows, and where those of each ordinal are."""
     rows, spans = [f"{each}," for each in left_out], []
     for form in forms:
         here = every.get(form, [])
         span = f"({len(rows)}, {len(rows) + len(here)})" if here else f"(0, {len(left_out)})"
         spans += [f"{span}, // {form}"] * (CARRIED if forms[form] else 1)
-        rows += [f"{each}, // {form}" for each in here]
+        rows += [noted(each, " ".join([form, note]).strip()) for each, note in zip(here, notes.get(form, []))]
     yield from ["", "/// The rows of all forms, after that of a form that has none."]
     yield from [f"pub(crate) const ROWS: &[FormRow; {len(rows)}] = &[", *(f"    {row}" for row in rows), "];"]
     yield from ["", "/// The first row of each ordinal, and the one after its last. A form that carries a number has eight ordinals."]
@@ -351,6 +364,7 @@ def by_match():
 def table(function, forms, numbers, others, between=()):
     """The lines of a table of rows from the imports on, for the forms that the function has rows of."""
     every = {form: [entry(each, numbers) for each in rows] for form, rows in rows_of(function).items()}
+    notes = {form: [spelled(each) for each in rows] for form, rows in rows_of(function).items()}
     left_out = every.pop("f")
     entries = [each for rows in every.values() for each in rows]
     used = {name for each in entries for name in re.findall(r"(?<![\w:])\w+", each.split(";", 2)[2])}
@@ -361,6 +375,6 @@ def table(function, forms, numbers, others, between=()):
     lines += imports("crate" if function == PLAIN else "x86_operands", constants, [*entries, *left_out], {"x86_forms": ["Form"], **others})
     lines += [line for each in constants for line in ("", each)]
     if function == PLAIN:
-        return lines + [*by_ordinal(forms, every, left_out)]
-    lines += [line for form, rows in every.items() for line in array(f"ROWS_{name_of(form).upper()}", rows)]
-    return lines + [*between, "", "/// The rows of a form that has none.", *array("LEFT_OUT", left_out)[1:], *by_match()]
+        return lines + [*by_ordinal(forms, every, notes, left_out)]
+    lines += [line for form, rows in every.items() for line in array(f"ROWS_{name_of(form).upper()}", rows, notes[form])]
+    return lines + [*between, "", "/// The rows of a form that has none.", *array("LEFT_OUT", left_out, [""])[1:], *by_match()]

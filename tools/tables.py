@@ -267,7 +267,7 @@ def form_lines_rt():
 
 def rows_rt(of, function, others, between=()):
     """A table of the rows of plain forms, or of groups."""
-    lines = [f"//! The rows of {of}: where, the prefixes, and what is there. A name is the number of an opcode, and 0 is none.", "//!"]
+    lines = [f"//! The rows of {of}: where, the prefixes, and what is there. A name is the number of an opcode, which", "//! the comment spells, and 0 is none.", "//!"]
     lines += note("//!", "specs/Rows.antt")
     return lines + form_rows.table(function, dict(forms()), numbers(), others, between)
 

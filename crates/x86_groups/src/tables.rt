@@ -1,4 +1,5 @@
-//! The rows of the groups: where, the prefixes, and what is there. A name is the number of an opcode, and 0 is none.
+//! The rows of the groups: where, the prefixes, and what is there. A name is the number of an opcode, which
+//! the comment spells, and 0 is none.
 //!
 //! Written by tools/tables.py from specs/Rows.antt.
 //! The proof doesn't rest on that script: a wrong entry is refused.
@@ -47,94 +48,94 @@ const EDX_IN_RM: Letter = Letter::Implied(RegisterSlot::Rm, 2, RegisterClass::D)
 const ECX_THIRD: Letter = Letter::Implied(RegisterSlot::Third, 1, RegisterClass::D);
 
 const ROWS_F30F38D8: &[FormRow; 4] = &[
-    read!(Memory Reg::Any, Rm::Any; Always; ByReg([424, 420, 0, 0, 0, 0, 0, 0]); One(M); Bytes(48); Bytes(48)),
-    read!(Memory Reg::Any, Rm::Any; Always; ByReg([0, 0, 425, 421, 0, 0, 0, 0]); One(M); Bytes(64); Bytes(64)),
+    read!(Memory Reg::Any, Rm::Any; Always; ByReg([424, 420, 0, 0, 0, 0, 0, 0]); One(M); Bytes(48); Bytes(48)), // AESENCWIDE128KL AESDECWIDE128KL - - - - - -
+    read!(Memory Reg::Any, Rm::Any; Always; ByReg([0, 0, 425, 421, 0, 0, 0, 0]); One(M); Bytes(64); Bytes(64)), // - - AESENCWIDE256KL AESDECWIDE256KL - - - -
     refusal!(Memory Reg::Any, Rm::Any; Always; Zero; BadOpcode AfterAddress),
     refusal!(Either Reg::Any, Rm::Any; Always; Zero; BadOperand AtModRM),
 ];
 
 const ROWS_F30F38DC: &[FormRow; 2] = &[
-    read!(Memory Reg::Any, Rm::Any; Always; Name(422); Two(G(X), E(X)); Bytes(48); Bytes(48)),
-    read!(Register Reg::Any, Rm::Any; Always; Name(563); Two(G(X), E(X)); Of(V); Of(V)),
+    read!(Memory Reg::Any, Rm::Any; Always; Name(422); Two(G(X), E(X)); Bytes(48); Bytes(48)), // AESENC128KL
+    read!(Register Reg::Any, Rm::Any; Always; Name(563); Two(G(X), E(X)); Of(V); Of(V)), // LOADIWKEY
 ];
 
 const ROWS_F30F38DD: &[FormRow; 2] = &[
-    read!(Memory Reg::Any, Rm::Any; Always; Name(418); Two(G(X), M); Bytes(48); Bytes(48)),
+    read!(Memory Reg::Any, Rm::Any; Always; Name(418); Two(G(X), M); Bytes(48); Bytes(48)), // AESDEC128KL
     refusal!(Either Reg::Any, Rm::Any; Always; Zero; BadOperand AtModRM),
 ];
 
 const ROWS_F30F38DE: &[FormRow; 2] = &[
-    read!(Memory Reg::Any, Rm::Any; Always; Name(423); Two(G(X), M); Bytes(64); Bytes(64)),
+    read!(Memory Reg::Any, Rm::Any; Always; Name(423); Two(G(X), M); Bytes(64); Bytes(64)), // AESENC256KL
     refusal!(Either Reg::Any, Rm::Any; Always; Zero; BadOperand AtModRM),
 ];
 
 const ROWS_F30F38DF: &[FormRow; 2] = &[
-    read!(Memory Reg::Any, Rm::Any; Always; Name(419); Two(G(X), M); Bytes(64); Bytes(64)),
+    read!(Memory Reg::Any, Rm::Any; Always; Name(419); Two(G(X), M); Bytes(64); Bytes(64)), // AESDEC256KL
     refusal!(Either Reg::Any, Rm::Any; Always; Zero; BadOperand AtModRM),
 ];
 
 const ROWS_F30F38FA: &[FormRow; 2] = &[
-    read!(Register Reg::Any, Rm::Any; Always; Name(448); Two(G(D), U(D)); Of(V); Of(V)),
+    read!(Register Reg::Any, Rm::Any; Always; Name(448); Two(G(D), U(D)); Of(V); Of(V)), // ENCODEKEY128
     refusal!(Either Reg::Any, Rm::Any; Always; Zero; BadOpcode AfterAddress),
 ];
 
 const ROWS_F30F38FB: &[FormRow; 2] = &[
-    read!(Register Reg::Any, Rm::Any; Always; Name(449); Two(G(D), U(D)); Of(V); Of(V)),
+    read!(Register Reg::Any, Rm::Any; Always; Name(449); Two(G(D), U(D)); Of(V); Of(V)), // ENCODEKEY256
     refusal!(Either Reg::Any, Rm::Any; Always; Zero; BadOpcode AfterAddress),
 ];
 
 const ROWS_F30F3AF0: &[FormRow; 2] = &[
-    read!(Register Reg::Any, Rm::Any; Always; Name(545); One(U8); Bytes(0); Bytes(0)),
+    read!(Register Reg::Any, Rm::Any; Always; Name(545); One(U8); Bytes(0); Bytes(0)), // HRESET
     refusal!(Either Reg::Any, Rm::Any; Always; Zero; BadOpcode AtModRM),
 ];
 
 const ROWS_0F00: &[FormRow; 2] = &[
-    read!(Either Reg::Any, Rm::Any; Always; ByReg([641, 646, 561, 564, 656, 657, 0, 0]); One(E(W)); Bytes(2); Bytes(0)),
+    read!(Either Reg::Any, Rm::Any; Always; ByReg([641, 646, 561, 564, 656, 657, 0, 0]); One(E(W)); Bytes(2); Bytes(0)), // SLDT STR LLDT LTR VERR VERW - -
     refusal!(Either Reg::Any, Rm::Any; Always; Zero; BadOperand AtModRM),
 ];
 
 const ROWS_0F01: &[FormRow; 36] = &[
-    read!(Memory Reg::Is(0), Rm::Any; Always; Name(636); One(M); Bytes(10); Bytes(10)),
-    read!(Memory Reg::Is(1), Rm::Any; Always; Name(639); One(M); Bytes(10); Bytes(10)),
-    read!(Memory Reg::Is(2), Rm::Any; Always; Name(559); One(M); Bytes(10); Bytes(10)),
-    read!(Memory Reg::Is(3), Rm::Any; Always; Name(560); One(M); Bytes(10); Bytes(10)),
-    read!(Memory Reg::Is(4), Rm::Any; Always; Name(642); One(M); Bytes(2); Bytes(2)),
-    read!(Memory Reg::Is(5), Rm::Any; F3; Name(626); One(M); Bytes(8); Bytes(8)),
-    read!(Memory Reg::Is(6), Rm::Any; Always; Name(562); One(M); Bytes(2); Bytes(2)),
-    read!(Memory Reg::Is(7), Rm::Any; Always; Name(549); One(M); Bytes(1); Bytes(1)),
-    read!(Register Reg::Is(0), Rm::Any; NoPrefix; ByRm([447, 658, 661, 666, 669, 576, 0, 0]); Zero; Bytes(0); Bytes(0)),
+    read!(Memory Reg::Is(0), Rm::Any; Always; Name(636); One(M); Bytes(10); Bytes(10)), // SGDT
+    read!(Memory Reg::Is(1), Rm::Any; Always; Name(639); One(M); Bytes(10); Bytes(10)), // SIDT
+    read!(Memory Reg::Is(2), Rm::Any; Always; Name(559); One(M); Bytes(10); Bytes(10)), // LGDT
+    read!(Memory Reg::Is(3), Rm::Any; Always; Name(560); One(M); Bytes(10); Bytes(10)), // LIDT
+    read!(Memory Reg::Is(4), Rm::Any; Always; Name(642); One(M); Bytes(2); Bytes(2)), // SMSW
+    read!(Memory Reg::Is(5), Rm::Any; F3; Name(626); One(M); Bytes(8); Bytes(8)), // RSTORSSP
+    read!(Memory Reg::Is(6), Rm::Any; Always; Name(562); One(M); Bytes(2); Bytes(2)), // LMSW
+    read!(Memory Reg::Is(7), Rm::Any; Always; Name(549); One(M); Bytes(1); Bytes(1)), // INVLPG
+    read!(Register Reg::Is(0), Rm::Any; NoPrefix; ByRm([447, 658, 661, 666, 669, 576, 0, 0]); Zero; Bytes(0); Bytes(0)), // ENCLV VMCALL VMLAUNCH VMRESUME VMXOFF PCONFIG - -
     refusal!(Register Reg::Is(0), Rm::Any; NoPrefix; Zero; BadOpcode AtModRM),
-    read!(Register Reg::Is(1), Rm::Is(0); NoPrefix; Name(566); Zero; Bytes(1); Bytes(1)),
-    read!(Register Reg::Is(1), Rm::Any; NoPrefix; ByRm([0, 571, 430, 643, 0, 0, 0, 445]); Zero; Bytes(0); Bytes(0)),
-    read!(Register Reg::Is(1), Rm::Any; Only66; ByRm([0, 0, 0, 0, 649, 632, 631, 630]); Zero; Bytes(0); Bytes(0)),
-    read!(Register Reg::Is(2), Rm::Any; NoPrefix; ByRm([677, 688, 0, 0, 660, 676, 690, 446]); Zero; Bytes(0); Bytes(0)),
+    read!(Register Reg::Is(1), Rm::Is(0); NoPrefix; Name(566); Zero; Bytes(1); Bytes(1)), // MONITOR
+    read!(Register Reg::Is(1), Rm::Any; NoPrefix; ByRm([0, 571, 430, 643, 0, 0, 0, 445]); Zero; Bytes(0); Bytes(0)), // - MWAIT CLAC STAC - - - ENCLS
+    read!(Register Reg::Is(1), Rm::Any; Only66; ByRm([0, 0, 0, 0, 649, 632, 631, 630]); Zero; Bytes(0); Bytes(0)), // - - - - TDCALL SEAMRET SEAMOPS SEAMCALL
+    read!(Register Reg::Is(2), Rm::Any; NoPrefix; ByRm([677, 688, 0, 0, 660, 676, 690, 446]); Zero; Bytes(0); Bytes(0)), // XGETBV XSETBV - - VMFUNC XEND XTEST ENCLU
     refusal!(Register Reg::Is(2), Rm::Any; NoPrefix; Zero; BadOpcode AtModRM),
     refusal!(Register Reg::Is(0), Rm::Any; Always; Zero; BadOperand AtModRM),
     refusal!(Register Reg::Is(2), Rm::Any; Always; Zero; BadOperand AtModRM),
-    read!(Register Reg::Is(3), Rm::Is(0); Always; Name(667); One(RAX); Bytes(0); Bytes(0)),
-    read!(Register Reg::Is(3), Rm::Is(2); Always; Name(662); One(RAX); Bytes(0); Bytes(0)),
-    read!(Register Reg::Is(3), Rm::Is(3); Always; Name(668); One(RAX); Bytes(0); Bytes(0)),
-    read!(Register Reg::Is(3), Rm::Is(6); Always; Name(640); One(EAX); Bytes(0); Bytes(0)),
-    read!(Register Reg::Is(3), Rm::Is(7); Always; Name(550); Two(RAX, ECX_IN_RM); Bytes(0); Bytes(0)),
-    read!(Register Reg::Is(3), Rm::Any; Always; ByRm([0, 663, 0, 0, 644, 433, 0, 0]); Zero; Bytes(0); Bytes(0)),
-    read!(Register Reg::Is(4), Rm::Any; Always; Name(642); One(U(V)); Bytes(2); Bytes(2)),
-    read!(Register Reg::Is(5), Rm::Any; F2; ByRm([689, 678, 0, 0, 0, 0, 0, 0]); Zero; Bytes(0); Bytes(0)),
-    read!(Register Reg::Is(5), Rm::Any; F3; ByRm([634, 0, 629, 0, 653, 650, 435, 647]); Zero; Bytes(0); Bytes(0)),
-    read!(Register Reg::Is(5), Rm::Any; NoPrefix; ByRm([0, 0, 0, 0, 0, 0, 617, 673]); Zero; Bytes(0); Bytes(0)),
-    read!(Register Reg::Is(6), Rm::Any; Always; Name(562); One(U(W)); Bytes(2); Bytes(2)),
-    read!(Register Reg::Is(7), Rm::Any; Always; ByRm([648, 621, 567, 572, 437, 0, 0, 0]); Zero; Bytes(0); Bytes(0)),
-    read!(Register Reg::Is(7), Rm::Is(5); Always; Name(618); One(ECX); Bytes(0); Bytes(0)),
+    read!(Register Reg::Is(3), Rm::Is(0); Always; Name(667); One(RAX); Bytes(0); Bytes(0)), // VMRUN
+    read!(Register Reg::Is(3), Rm::Is(2); Always; Name(662); One(RAX); Bytes(0); Bytes(0)), // VMLOAD
+    read!(Register Reg::Is(3), Rm::Is(3); Always; Name(668); One(RAX); Bytes(0); Bytes(0)), // VMSAVE
+    read!(Register Reg::Is(3), Rm::Is(6); Always; Name(640); One(EAX); Bytes(0); Bytes(0)), // SKINIT
+    read!(Register Reg::Is(3), Rm::Is(7); Always; Name(550); Two(RAX, ECX_IN_RM); Bytes(0); Bytes(0)), // INVLPGA
+    read!(Register Reg::Is(3), Rm::Any; Always; ByRm([0, 663, 0, 0, 644, 433, 0, 0]); Zero; Bytes(0); Bytes(0)), // - VMMCALL - - STGI CLGI - -
+    read!(Register Reg::Is(4), Rm::Any; Always; Name(642); One(U(V)); Bytes(2); Bytes(2)), // SMSW
+    read!(Register Reg::Is(5), Rm::Any; F2; ByRm([689, 678, 0, 0, 0, 0, 0, 0]); Zero; Bytes(0); Bytes(0)), // XSUSLDTRK XRESLDTRK - - - - - -
+    read!(Register Reg::Is(5), Rm::Any; F3; ByRm([634, 0, 629, 0, 653, 650, 435, 647]); Zero; Bytes(0); Bytes(0)), // SETSSBSY - SAVEPREVSSP - UIRET TESTUI CLUI STUI
+    read!(Register Reg::Is(5), Rm::Any; NoPrefix; ByRm([0, 0, 0, 0, 0, 0, 617, 673]); Zero; Bytes(0); Bytes(0)), // - - - - - - RDPKRU WRPKRU
+    read!(Register Reg::Is(6), Rm::Any; Always; Name(562); One(U(W)); Bytes(2); Bytes(2)), // LMSW
+    read!(Register Reg::Is(7), Rm::Any; Always; ByRm([648, 621, 567, 572, 437, 0, 0, 0]); Zero; Bytes(0); Bytes(0)), // SWAPGS RDTSCP MONITORX MWAITX CLZERO - - -
+    read!(Register Reg::Is(7), Rm::Is(5); Always; Name(618); One(ECX); Bytes(0); Bytes(0)), // RDPRU
     refusal!(Register Reg::Is(7), Rm::Any; With66; Zero; BadOperand AtModRM),
-    read!(Register Reg::Is(7), Rm::Any; F3; ByRm([0, 0, 0, 0, 0, 0, 622, 607]); Zero; Bytes(0); Bytes(0)),
-    read!(Register Reg::Is(7), Rm::Any; F2; ByRm([0, 0, 0, 0, 0, 0, 623, 611]); Zero; Bytes(0); Bytes(0)),
-    read!(Register Reg::Is(7), Rm::Is(6); Always; Name(551); Three(RAX, EDX_IN_RM, ECX_THIRD); Bytes(0); Bytes(0)),
-    read!(Register Reg::Is(7), Rm::Is(7); Always; Name(651); Zero; Bytes(0); Bytes(0)),
+    read!(Register Reg::Is(7), Rm::Any; F3; ByRm([0, 0, 0, 0, 0, 0, 622, 607]); Zero; Bytes(0); Bytes(0)), // - - - - - - RMPADJUST PSMASH
+    read!(Register Reg::Is(7), Rm::Any; F2; ByRm([0, 0, 0, 0, 0, 0, 623, 611]); Zero; Bytes(0); Bytes(0)), // - - - - - - RMPUPDATE PVALIDATE
+    read!(Register Reg::Is(7), Rm::Is(6); Always; Name(551); Three(RAX, EDX_IN_RM, ECX_THIRD); Bytes(0); Bytes(0)), // INVLPGB
+    read!(Register Reg::Is(7), Rm::Is(7); Always; Name(651); Zero; Bytes(0); Bytes(0)), // TLBSYNC
     refusal!(Either Reg::Any, Rm::Any; Always; Zero; BadOpcode AtModRM),
 ];
 
 const ROWS_0F0D: &[FormRow; 3] = &[
-    read!(Memory Reg::Is(1), Rm::Any; Always; Name(605); One(M); Bytes(64); Bytes(64)),
-    read!(Memory Reg::Any, Rm::Any; Always; Name(76); One(M); Bytes(64); Bytes(64)),
+    read!(Memory Reg::Is(1), Rm::Any; Always; Name(605); One(M); Bytes(64); Bytes(64)), // PREFETCHW
+    read!(Memory Reg::Any, Rm::Any; Always; Name(76); One(M); Bytes(64); Bytes(64)), // NOP
     refusal!(Either Reg::Any, Rm::Any; Always; Zero; BadOperand AtModRM),
 ];
 
@@ -143,18 +144,18 @@ const ROWS_0F0F: &[FormRow; 1] = &[
 ];
 
 const ROWS_0F12: &[FormRow; 2] = &[
-    read!(Memory Reg::Any, Rm::Any; Always; Name(195); Two(G(X), E(X)); Bytes(8); Bytes(8)),
-    read!(Register Reg::Any, Rm::Any; Always; Name(568); Two(G(X), E(X)); Of(V); Of(V)),
+    read!(Memory Reg::Any, Rm::Any; Always; Name(195); Two(G(X), E(X)); Bytes(8); Bytes(8)), // MOVLPS
+    read!(Register Reg::Any, Rm::Any; Always; Name(568); Two(G(X), E(X)); Of(V); Of(V)), // MOVHLPS
 ];
 
 const ROWS_0F16: &[FormRow; 2] = &[
-    read!(Memory Reg::Any, Rm::Any; Always; Name(196); Two(G(X), E(X)); Bytes(8); Bytes(8)),
-    read!(Register Reg::Any, Rm::Any; Always; Name(569); Two(G(X), E(X)); Of(V); Of(V)),
+    read!(Memory Reg::Any, Rm::Any; Always; Name(196); Two(G(X), E(X)); Bytes(8); Bytes(8)), // MOVHPS
+    read!(Register Reg::Any, Rm::Any; Always; Name(569); Two(G(X), E(X)); Of(V); Of(V)), // MOVLHPS
 ];
 
 const ROWS_0F18: &[FormRow; 2] = &[
-    read!(Memory Reg::Any, Rm::Any; Always; ByReg([604, 601, 602, 603, 0, 0, 0, 0]); One(E(V)); Bytes(64); Bytes(64)),
-    read!(Either Reg::Any, Rm::Any; Always; Name(76); One(E(V)); Bytes(64); Of(V)),
+    read!(Memory Reg::Any, Rm::Any; Always; ByReg([604, 601, 602, 603, 0, 0, 0, 0]); One(E(V)); Bytes(64); Bytes(64)), // PREFETCHNTA PREFETCH0 PREFETCH1 PREFETCH2 - - - -
+    read!(Either Reg::Any, Rm::Any; Always; Name(76); One(E(V)); Bytes(64); Of(V)), // NOP
 ];
 
 const ROWS_RQ_CQ_0: &[FormRow; 4] = &[
@@ -182,22 +183,22 @@ const ROWS_DQ_RQ_0: &[FormRow; 2] = &[
 ];
 
 const ROWS_0F71: &[FormRow; 4] = &[
-    read!(Register Reg::Any, Rm::Any; Only66; ByReg([0, 0, 151, 0, 165, 0, 178, 0]); Two(U(X), U8); Of(V); Of(V)),
-    read!(Register Reg::Any, Rm::Any; NoPrefix; ByReg([0, 0, 151, 0, 165, 0, 178, 0]); Two(Umm, U8); Of(V); Of(V)),
+    read!(Register Reg::Any, Rm::Any; Only66; ByReg([0, 0, 151, 0, 165, 0, 178, 0]); Two(U(X), U8); Of(V); Of(V)), // - - PSRLW - PSRAW - PSLLW -
+    read!(Register Reg::Any, Rm::Any; NoPrefix; ByReg([0, 0, 151, 0, 165, 0, 178, 0]); Two(Umm, U8); Of(V); Of(V)), // - - PSRLW - PSRAW - PSLLW -
     refusal!(Register Reg::Any, Rm::Any; NoRepeat; Zero; BadOpcode AfterAddress),
     refusal!(Either Reg::Any, Rm::Any; Always; Zero; BadOperand AfterAddress),
 ];
 
 const ROWS_0F72: &[FormRow; 4] = &[
-    read!(Register Reg::Any, Rm::Any; Only66; ByReg([0, 0, 152, 0, 166, 0, 179, 0]); Two(U(X), U8); Of(V); Of(V)),
-    read!(Register Reg::Any, Rm::Any; NoPrefix; ByReg([0, 0, 152, 0, 166, 0, 179, 0]); Two(Umm, U8); Of(V); Of(V)),
+    read!(Register Reg::Any, Rm::Any; Only66; ByReg([0, 0, 152, 0, 166, 0, 179, 0]); Two(U(X), U8); Of(V); Of(V)), // - - PSRLD - PSRAD - PSLLD -
+    read!(Register Reg::Any, Rm::Any; NoPrefix; ByReg([0, 0, 152, 0, 166, 0, 179, 0]); Two(Umm, U8); Of(V); Of(V)), // - - PSRLD - PSRAD - PSLLD -
     refusal!(Register Reg::Any, Rm::Any; NoRepeat; Zero; BadOpcode AfterAddress),
     refusal!(Either Reg::Any, Rm::Any; Always; Zero; BadOperand AfterAddress),
 ];
 
 const ROWS_0F73: &[FormRow; 6] = &[
-    read!(Register Reg::Any, Rm::Any; Only66; ByReg([0, 0, 153, 608, 0, 0, 180, 606]); Two(U(X), U8); Of(V); Of(V)),
-    read!(Register Reg::Any, Rm::Any; NoPrefix; ByReg([0, 0, 153, 0, 0, 0, 180, 0]); Two(Umm, U8); Of(V); Of(V)),
+    read!(Register Reg::Any, Rm::Any; Only66; ByReg([0, 0, 153, 608, 0, 0, 180, 606]); Two(U(X), U8); Of(V); Of(V)), // - - PSRLQ PSRLDQ - - PSLLQ PSLLDQ
+    read!(Register Reg::Any, Rm::Any; NoPrefix; ByReg([0, 0, 153, 0, 0, 0, 180, 0]); Two(Umm, U8); Of(V); Of(V)), // - - PSRLQ - - - PSLLQ -
     refusal!(Register Reg::Is(3), Rm::Any; NoPrefix; Zero; BadOperand AfterAddress),
     refusal!(Register Reg::Is(7), Rm::Any; NoPrefix; Zero; BadOperand AfterAddress),
     refusal!(Register Reg::Any, Rm::Any; NoRepeat; Zero; BadOpcode AfterAddress),
@@ -205,279 +206,279 @@ const ROWS_0F73: &[FormRow; 6] = &[
 ];
 
 const ROWS_0FAE: &[FormRow; 17] = &[
-    read!(Register Reg::Is(6), Rm::Any; F2; Name(655); One(RdInReg); Bytes(0); Bytes(0)),
+    read!(Register Reg::Is(6), Rm::Any; F2; Name(655); One(RdInReg); Bytes(0); Bytes(0)), // UMWAIT
     refusal!(Memory Reg::Any, Rm::Any; F2; Zero; BadOperand AtModRM),
     refusal!(Either Reg::Is(4), Rm::Any; F3With66; Zero; BadOpcode AtModRM),
-    read!(Either Reg::Is(4), Rm::Any; F3; Name(610); One(E(Dq)); Of(Dq); Bytes(0)),
-    read!(Memory Reg::Is(6), Rm::Any; F3; Name(434); One(M); Bytes(8); Bytes(8)),
+    read!(Either Reg::Is(4), Rm::Any; F3; Name(610); One(E(Dq)); Of(Dq); Bytes(0)), // PTWRITE
+    read!(Memory Reg::Is(6), Rm::Any; F3; Name(434); One(M); Bytes(8); Bytes(8)), // CLRSSBSY
     refusal!(Memory Reg::Any, Rm::Any; F3; Zero; BadOperand AtModRM),
-    read!(Register Reg::Any, Rm::Any; F3; ByReg([614, 615, 671, 672, 0, 548, 0, 0]); One(U(Dq)); Bytes(0); Bytes(0)),
-    read!(Register Reg::Is(6), Rm::Any; F3; Name(654); One(U(Q)); Bytes(0); Bytes(0)),
-    read!(Memory Reg::Is(6), Rm::Any; Only66; Name(436); One(M); Bytes(64); Bytes(64); ClearsOperandSize),
-    read!(Memory Reg::Is(7), Rm::Any; Only66; Name(432); One(M); Bytes(64); Bytes(64); ClearsOperandSize),
-    read!(Register Reg::Is(6), Rm::Any; Only66; Name(652); One(U(D)); Bytes(0); Bytes(0); ClearsOperandSize),
-    read!(Memory Reg::Any, Rm::Any; NoPrefix; ByReg([541, 540, 0, 0, 682, 679, 685, 0]); One(M); Bytes(63); Bytes(63)),
-    read!(Memory Reg::Any, Rm::Any; NoPrefix; ByReg([0, 0, 557, 645, 0, 0, 0, 0]); One(M); Bytes(4); Bytes(4)),
-    read!(Memory Reg::Is(7), Rm::Any; NoPrefix; Name(431); One(M); Bytes(64); Bytes(64)),
-    read!(Register Reg::Any, Rm::ZeroIfStrict; NoPrefix; ByReg([0, 0, 0, 0, 0, 558, 565, 635]); Zero; Bytes(0); Bytes(0)),
+    read!(Register Reg::Any, Rm::Any; F3; ByReg([614, 615, 671, 672, 0, 548, 0, 0]); One(U(Dq)); Bytes(0); Bytes(0)), // RDFSBASE RDGSBASE WRFSBASE WRGSBASE - INCSSP - -
+    read!(Register Reg::Is(6), Rm::Any; F3; Name(654); One(U(Q)); Bytes(0); Bytes(0)), // UMONITOR
+    read!(Memory Reg::Is(6), Rm::Any; Only66; Name(436); One(M); Bytes(64); Bytes(64); ClearsOperandSize), // CLWB
+    read!(Memory Reg::Is(7), Rm::Any; Only66; Name(432); One(M); Bytes(64); Bytes(64); ClearsOperandSize), // CLFLUSHOPT
+    read!(Register Reg::Is(6), Rm::Any; Only66; Name(652); One(U(D)); Bytes(0); Bytes(0); ClearsOperandSize), // TPAUSE
+    read!(Memory Reg::Any, Rm::Any; NoPrefix; ByReg([541, 540, 0, 0, 682, 679, 685, 0]); One(M); Bytes(63); Bytes(63)), // FXSAVE FXRSTOR - - XSAVE XRSTOR XSAVEOPT -
+    read!(Memory Reg::Any, Rm::Any; NoPrefix; ByReg([0, 0, 557, 645, 0, 0, 0, 0]); One(M); Bytes(4); Bytes(4)), // - - LDMXCSR STMXCSR - - - -
+    read!(Memory Reg::Is(7), Rm::Any; NoPrefix; Name(431); One(M); Bytes(64); Bytes(64)), // CLFLUSH
+    read!(Register Reg::Any, Rm::ZeroIfStrict; NoPrefix; ByReg([0, 0, 0, 0, 0, 558, 565, 635]); Zero; Bytes(0); Bytes(0)), // - - - - - LFENCE MFENCE SFENCE
     refusal!(Register Reg::From(5, 7), Rm::Any; NoPrefix; Zero; BadOperand AtModRM),
     refusal!(Either Reg::Any, Rm::Any; Always; Zero; BadOpcode AtModRM),
 ];
 
 const ROWS_0FBA: &[FormRow; 2] = &[
-    read!(Either Reg::Any, Rm::Any; Always; ByReg([0, 0, 0, 0, 118, 119, 120, 121]); Two(E(Vq), I8); Of(Vq); Bytes(0)),
+    read!(Either Reg::Any, Rm::Any; Always; ByReg([0, 0, 0, 0, 118, 119, 120, 121]); Two(E(Vq), I8); Of(Vq); Bytes(0)), // - - - - BT BTS BTR BTC
     refusal!(Either Reg::Any, Rm::Any; Always; Zero; BadOpcode AtModRM),
 ];
 
 const ROWS_0FC7: &[FormRow; 17] = &[
-    read!(Memory Reg::Is(1), Rm::Any; RexW; Name(438); One(M); Bytes(16); Bytes(16)),
-    read!(Memory Reg::Is(1), Rm::Any; Always; Name(439); One(M); Bytes(8); Bytes(8)),
+    read!(Memory Reg::Is(1), Rm::Any; RexW; Name(438); One(M); Bytes(16); Bytes(16)), // CMPXCHG16B
+    read!(Memory Reg::Is(1), Rm::Any; Always; Name(439); One(M); Bytes(8); Bytes(8)), // CMPXCHG8B
     refusal!(Either Reg::Is(1), Rm::Any; Always; Zero; BadOperand AtModRM),
     refusal!(Either Reg::Any, Rm::Any; F2; Zero; BadOperand AtModRM),
-    read!(Memory Reg::Is(6), Rm::Any; With66; Name(659); One(M); Bytes(8); Bytes(8)),
-    read!(Register Reg::Any, Rm::Any; With66; ByReg([0, 0, 0, 0, 0, 0, 619, 620]); One(U(W)); Bytes(0); Bytes(0)),
+    read!(Memory Reg::Is(6), Rm::Any; With66; Name(659); One(M); Bytes(8); Bytes(8)), // VMCLEAR
+    read!(Register Reg::Any, Rm::Any; With66; ByReg([0, 0, 0, 0, 0, 0, 619, 620]); One(U(W)); Bytes(0); Bytes(0)), // - - - - - - RDRAND RDSEED
     refusal!(Memory Reg::Is(7), Rm::Any; With66; Zero; BadOpcode AfterAddress),
     refusal!(Either Reg::Any, Rm::Any; With66; Zero; BadOpcode AtModRM),
-    read!(Memory Reg::Is(6), Rm::Any; F3; Name(670); One(M); Bytes(8); Bytes(8)),
-    read!(Register Reg::Any, Rm::Any; F3; ByReg([0, 0, 0, 0, 0, 0, 633, 616]); One(U(Q)); Bytes(0); Bytes(0)),
+    read!(Memory Reg::Is(6), Rm::Any; F3; Name(670); One(M); Bytes(8); Bytes(8)), // VMXON
+    read!(Register Reg::Any, Rm::Any; F3; ByReg([0, 0, 0, 0, 0, 0, 633, 616]); One(U(Q)); Bytes(0); Bytes(0)), // - - - - - - SENDUIPI RDPID
     refusal!(Memory Reg::Is(7), Rm::Any; F3; Zero; BadOperand AfterAddress),
     refusal!(Either Reg::Any, Rm::Any; F3; Zero; BadOpcode AtModRM),
-    read!(Memory Reg::Any, Rm::Any; RexW; ByReg([0, 0, 0, 681, 684, 687, 0, 0]); One(M); Bytes(63); Bytes(63)),
-    read!(Memory Reg::Any, Rm::Any; Always; ByReg([0, 0, 0, 680, 683, 686, 0, 0]); One(M); Bytes(63); Bytes(63)),
-    read!(Memory Reg::Any, Rm::Any; Always; ByReg([0, 0, 0, 0, 0, 0, 664, 665]); One(M); Bytes(8); Bytes(8)),
-    read!(Register Reg::Any, Rm::Any; Always; ByReg([0, 0, 0, 0, 0, 0, 619, 620]); One(U(V)); Bytes(0); Bytes(0)),
+    read!(Memory Reg::Any, Rm::Any; RexW; ByReg([0, 0, 0, 681, 684, 687, 0, 0]); One(M); Bytes(63); Bytes(63)), // - - - XRSTORS64 XSAVEC64 XSAVES64 - -
+    read!(Memory Reg::Any, Rm::Any; Always; ByReg([0, 0, 0, 680, 683, 686, 0, 0]); One(M); Bytes(63); Bytes(63)), // - - - XRSTORS XSAVEC XSAVES - -
+    read!(Memory Reg::Any, Rm::Any; Always; ByReg([0, 0, 0, 0, 0, 0, 664, 665]); One(M); Bytes(8); Bytes(8)), // - - - - - - VMPTRLD VMPTRST
+    read!(Register Reg::Any, Rm::Any; Always; ByReg([0, 0, 0, 0, 0, 0, 619, 620]); One(U(V)); Bytes(0); Bytes(0)), // - - - - - - RDRAND RDSEED
     refusal!(Either Reg::Any, Rm::Any; Always; Zero; BadOperand AtModRM),
 ];
 
 const ROWS_660F78: &[FormRow; 2] = &[
-    read!(Register Reg::Is(0), Rm::Any; Always; Name(270); Three(U(X), U8, X8); Bytes(0); Bytes(0)),
+    read!(Register Reg::Is(0), Rm::Any; Always; Name(270); Three(U(X), U8, X8); Bytes(0); Bytes(0)), // EXTRQ
     refusal!(Either Reg::Any, Rm::Any; Always; Zero; BadOperand AtModRM),
 ];
 
 const ROWS_F20F78: &[FormRow; 2] = &[
-    read!(Register Reg::Any, Rm::Any; Always; Name(318); Four(G(X), U(X), U8, X8); Bytes(0); Bytes(0)),
+    read!(Register Reg::Any, Rm::Any; Always; Name(318); Four(G(X), U(X), U8, X8); Bytes(0); Bytes(0)), // INSERTQ
     refusal!(Either Reg::Any, Rm::Any; Always; Zero; BadOperand AtModRM),
 ];
 
 const ROWS_F30F1E: &[FormRow; 3] = &[
-    read!(Register Reg::Is(7), Rm::Is(2); Always; Name(451); Zero; Bytes(0); Bytes(0)),
-    read!(Register Reg::Is(7), Rm::Is(3); Always; Name(450); Zero; Bytes(0); Bytes(0)),
-    read!(Either Reg::Any, Rm::Any; Always; Name(76); Two(E(V), G(V)); Of(V); Of(V)),
+    read!(Register Reg::Is(7), Rm::Is(2); Always; Name(451); Zero; Bytes(0); Bytes(0)), // ENDBR64
+    read!(Register Reg::Is(7), Rm::Is(3); Always; Name(450); Zero; Bytes(0); Bytes(0)), // ENDBR32
+    read!(Either Reg::Any, Rm::Any; Always; Name(76); Two(E(V), G(V)); Of(V); Of(V)), // NOP
 ];
 
 const ROWS_80: &[FormRow; 1] = &[
-    read!(Either Reg::Any, Rm::Any; Always; ByReg([1, 2, 3, 4, 5, 6, 7, 8]); Two(E(B), I8); Bytes(1); Bytes(1)),
+    read!(Either Reg::Any, Rm::Any; Always; ByReg([1, 2, 3, 4, 5, 6, 7, 8]); Two(E(B), I8); Bytes(1); Bytes(1)), // ADD OR ADC SBB AND SUB XOR CMP
 ];
 
 const ROWS_81: &[FormRow; 1] = &[
-    read!(Either Reg::Any, Rm::Any; Always; ByReg([1, 2, 3, 4, 5, 6, 7, 8]); Two(E(V), IV); Of(V); Of(V)),
+    read!(Either Reg::Any, Rm::Any; Always; ByReg([1, 2, 3, 4, 5, 6, 7, 8]); Two(E(V), IV); Of(V); Of(V)), // ADD OR ADC SBB AND SUB XOR CMP
 ];
 
 const ROWS_83: &[FormRow; 1] = &[
-    read!(Either Reg::Any, Rm::Any; Always; ByReg([1, 2, 3, 4, 5, 6, 7, 8]); Two(E(V), I8); Of(V); Of(V)),
+    read!(Either Reg::Any, Rm::Any; Always; ByReg([1, 2, 3, 4, 5, 6, 7, 8]); Two(E(V), I8); Of(V); Of(V)), // ADD OR ADC SBB AND SUB XOR CMP
 ];
 
 const ROWS_8F: &[FormRow; 3] = &[
-    read!(Either Reg::Is(0), Rm::Any; With66; Name(10); One(E(V)); Of(V); Of(V)),
-    read!(Either Reg::Is(0), Rm::Any; Always; Name(10); One(E(V)); Bytes(8); Of(V)),
+    read!(Either Reg::Is(0), Rm::Any; With66; Name(10); One(E(V)); Of(V); Of(V)), // POP
+    read!(Either Reg::Is(0), Rm::Any; Always; Name(10); One(E(V)); Bytes(8); Of(V)), // POP
     refusal!(Either Reg::Any, Rm::Any; Always; Zero; Incomplete AfterAddress),
 ];
 
 const ROWS_C0: &[FormRow; 1] = &[
-    read!(Either Reg::Any, Rm::Any; Always; ByReg([624, 625, 612, 613, 637, 638, 627, 628]); Two(E(B), I8); Bytes(1); Bytes(1)),
+    read!(Either Reg::Any, Rm::Any; Always; ByReg([624, 625, 612, 613, 637, 638, 627, 628]); Two(E(B), I8); Bytes(1); Bytes(1)), // ROL ROR RCL RCR SHL SHR SAL SAR
 ];
 
 const ROWS_C1: &[FormRow; 1] = &[
-    read!(Either Reg::Any, Rm::Any; Always; ByReg([624, 625, 612, 613, 637, 638, 627, 628]); Two(E(V), I8); Of(V); Of(V)),
+    read!(Either Reg::Any, Rm::Any; Always; ByReg([624, 625, 612, 613, 637, 638, 627, 628]); Two(E(V), I8); Of(V); Of(V)), // ROL ROR RCL RCR SHL SHR SAL SAR
 ];
 
 const ROWS_D0: &[FormRow; 1] = &[
-    read!(Either Reg::Any, Rm::Any; Always; ByReg([624, 625, 612, 613, 637, 638, 627, 628]); Two(E(B), SIGNED_ONE); Bytes(1); Bytes(1)),
+    read!(Either Reg::Any, Rm::Any; Always; ByReg([624, 625, 612, 613, 637, 638, 627, 628]); Two(E(B), SIGNED_ONE); Bytes(1); Bytes(1)), // ROL ROR RCL RCR SHL SHR SAL SAR
 ];
 
 const ROWS_D1: &[FormRow; 1] = &[
-    read!(Either Reg::Any, Rm::Any; Always; ByReg([624, 625, 612, 613, 637, 638, 627, 628]); Two(E(V), SIGNED_ONE); Of(V); Of(V)),
+    read!(Either Reg::Any, Rm::Any; Always; ByReg([624, 625, 612, 613, 637, 638, 627, 628]); Two(E(V), SIGNED_ONE); Of(V); Of(V)), // ROL ROR RCL RCR SHL SHR SAL SAR
 ];
 
 const ROWS_D2: &[FormRow; 1] = &[
-    read!(Either Reg::Any, Rm::Any; Always; ByReg([624, 625, 612, 613, 637, 638, 627, 628]); Two(E(B), CL); Bytes(1); Bytes(1)),
+    read!(Either Reg::Any, Rm::Any; Always; ByReg([624, 625, 612, 613, 637, 638, 627, 628]); Two(E(B), CL); Bytes(1); Bytes(1)), // ROL ROR RCL RCR SHL SHR SAL SAR
 ];
 
 const ROWS_D3: &[FormRow; 1] = &[
-    read!(Either Reg::Any, Rm::Any; Always; ByReg([624, 625, 612, 613, 637, 638, 627, 628]); Two(E(V), CL); Of(V); Of(V)),
+    read!(Either Reg::Any, Rm::Any; Always; ByReg([624, 625, 612, 613, 637, 638, 627, 628]); Two(E(V), CL); Of(V); Of(V)), // ROL ROR RCL RCR SHL SHR SAL SAR
 ];
 
 const ROWS_C6: &[FormRow; 3] = &[
-    read!(Either Reg::Is(0), Rm::Any; Always; Name(33); Two(E(B), I8); Bytes(1); Bytes(1)),
-    read!(Register Reg::Any, Rm::Is(0); Always; Name(674); One(I8); Bytes(1); Bytes(1)),
+    read!(Either Reg::Is(0), Rm::Any; Always; Name(33); Two(E(B), I8); Bytes(1); Bytes(1)), // MOV
+    read!(Register Reg::Any, Rm::Is(0); Always; Name(674); One(I8); Bytes(1); Bytes(1)), // XABORT
     refusal!(Either Reg::Any, Rm::Any; Always; Zero; BadOperand AfterAddress),
 ];
 
 const ROWS_C7: &[FormRow; 3] = &[
-    read!(Either Reg::Is(0), Rm::Any; Always; Name(33); Two(E(V), IV); Of(V); Of(V)),
-    read!(Register Reg::Any, Rm::Is(0); Always; Name(675); One(Jv); Of(V); Of(V)),
+    read!(Either Reg::Is(0), Rm::Any; Always; Name(33); Two(E(V), IV); Of(V); Of(V)), // MOV
+    read!(Register Reg::Any, Rm::Is(0); Always; Name(675); One(Jv); Of(V); Of(V)), // XBEGIN
     refusal!(Either Reg::Any, Rm::Any; Always; Zero; BadOperand AfterAddress),
 ];
 
 const ROWS_F6: &[FormRow; 2] = &[
-    read!(Either Reg::Any, Rm::Any; Always; ByReg([31, 31, 0, 0, 0, 0, 0, 0]); Two(E(B), I8); Bytes(1); Bytes(1)),
-    read!(Either Reg::Any, Rm::Any; Always; ByReg([0, 0, 574, 573, 570, 12, 444, 546]); One(E(B)); Bytes(1); Bytes(1)),
+    read!(Either Reg::Any, Rm::Any; Always; ByReg([31, 31, 0, 0, 0, 0, 0, 0]); Two(E(B), I8); Bytes(1); Bytes(1)), // TEST TEST - - - - - -
+    read!(Either Reg::Any, Rm::Any; Always; ByReg([0, 0, 574, 573, 570, 12, 444, 546]); One(E(B)); Bytes(1); Bytes(1)), // - - NOT NEG MUL IMUL DIV IDIV
 ];
 
 const ROWS_F7: &[FormRow; 2] = &[
-    read!(Either Reg::Any, Rm::Any; Always; ByReg([31, 31, 0, 0, 0, 0, 0, 0]); Two(E(V), IV); Of(V); Of(V)),
-    read!(Either Reg::Any, Rm::Any; Always; ByReg([0, 0, 574, 573, 570, 12, 444, 546]); One(E(V)); Of(V); Of(V)),
+    read!(Either Reg::Any, Rm::Any; Always; ByReg([31, 31, 0, 0, 0, 0, 0, 0]); Two(E(V), IV); Of(V); Of(V)), // TEST TEST - - - - - -
+    read!(Either Reg::Any, Rm::Any; Always; ByReg([0, 0, 574, 573, 570, 12, 444, 546]); One(E(V)); Of(V); Of(V)), // - - NOT NEG MUL IMUL DIV IDIV
 ];
 
 const ROWS_FE: &[FormRow; 2] = &[
-    read!(Either Reg::Any, Rm::Any; Always; ByReg([547, 443, 0, 0, 0, 0, 0, 0]); One(E(B)); Bytes(1); Bytes(1)),
+    read!(Either Reg::Any, Rm::Any; Always; ByReg([547, 443, 0, 0, 0, 0, 0, 0]); One(E(B)); Bytes(1); Bytes(1)), // INC DEC - - - - - -
     refusal!(Either Reg::Any, Rm::Any; Always; Zero; BadOpcode AfterAddress),
 ];
 
 const ROWS_FF: &[FormRow; 10] = &[
-    read!(Either Reg::Any, Rm::Any; Always; ByReg([547, 443, 0, 0, 0, 0, 0, 0]); One(E(V)); Of(V); Of(V)),
-    read!(Either Reg::Is(2), Rm::Any; Always; Name(58); One(E(Q)); Bytes(8); Bytes(8)),
-    read!(Memory Reg::Is(3), Rm::Any; Always; Name(426); One(M); Bytes(10); Bytes(10)),
-    read!(Either Reg::Is(4), Rm::Any; Always; Name(54); One(E(Q)); Bytes(8); Of(V)),
-    read!(Memory Reg::Is(5), Rm::Any; Always; Name(556); One(M); Bytes(10); Bytes(10)),
-    read!(Either Reg::Is(6), Rm::Any; With66; Name(9); One(E(V)); Bytes(2); Bytes(2)),
-    read!(Either Reg::Is(6), Rm::Any; Always; Name(9); One(E(V)); Bytes(8); Bytes(8)),
+    read!(Either Reg::Any, Rm::Any; Always; ByReg([547, 443, 0, 0, 0, 0, 0, 0]); One(E(V)); Of(V); Of(V)), // INC DEC - - - - - -
+    read!(Either Reg::Is(2), Rm::Any; Always; Name(58); One(E(Q)); Bytes(8); Bytes(8)), // CALL
+    read!(Memory Reg::Is(3), Rm::Any; Always; Name(426); One(M); Bytes(10); Bytes(10)), // CALLF
+    read!(Either Reg::Is(4), Rm::Any; Always; Name(54); One(E(Q)); Bytes(8); Of(V)), // JMP
+    read!(Memory Reg::Is(5), Rm::Any; Always; Name(556); One(M); Bytes(10); Bytes(10)), // JMPF
+    read!(Either Reg::Is(6), Rm::Any; With66; Name(9); One(E(V)); Bytes(2); Bytes(2)), // PUSH
+    read!(Either Reg::Is(6), Rm::Any; Always; Name(9); One(E(V)); Bytes(8); Bytes(8)), // PUSH
     refusal!(Register Reg::Is(3), Rm::Any; Always; Zero; BadOperand AtModRM),
     refusal!(Register Reg::Is(5), Rm::Any; Always; Zero; BadOperand AtModRM),
     refusal!(Either Reg::Any, Rm::Any; Always; Zero; BadOpcode AfterAddress),
 ];
 
 const ROWS_D8: &[FormRow; 2] = &[
-    read!(Memory Reg::Any, Rm::Any; Always; ByReg([454, 505, 467, 470, 528, 530, 475, 477]); Two(ST0, M); Bytes(4); Bytes(4)),
-    read!(Register Reg::Any, Rm::Any; Always; ByReg([454, 505, 467, 470, 528, 530, 475, 477]); Two(ST0, StRm); Bytes(0); Bytes(0)),
+    read!(Memory Reg::Any, Rm::Any; Always; ByReg([454, 505, 467, 470, 528, 530, 475, 477]); Two(ST0, M); Bytes(4); Bytes(4)), // FADD FMUL FCOM FCOMP FSUB FSUBR FDIV FDIVR
+    read!(Register Reg::Any, Rm::Any; Always; ByReg([454, 505, 467, 470, 528, 530, 475, 477]); Two(ST0, StRm); Bytes(0); Bytes(0)), // FADD FMUL FCOM FCOMP FSUB FSUBR FDIV FDIVR
 ];
 
 const ROWS_D9: &[FormRow; 13] = &[
-    read!(Memory Reg::Is(0), Rm::Any; Always; Name(495); Two(ST0, M); Bytes(4); Bytes(4)),
-    read!(Memory Reg::Is(2), Rm::Any; Always; Name(525); Two(M, ST0); Bytes(4); Bytes(4)),
-    read!(Memory Reg::Is(3), Rm::Any; Always; Name(526); Two(M, ST0); Bytes(4); Bytes(4)),
-    read!(Memory Reg::Any, Rm::Any; Always; ByReg([0, 0, 0, 0, 498, 0, 512, 0]); One(M); Bytes(63); Bytes(63)),
-    read!(Memory Reg::Any, Rm::Any; Always; ByReg([0, 0, 0, 0, 0, 497, 0, 511]); One(M); Bytes(2); Bytes(2)),
-    read!(Register Reg::Any, Rm::Any; Always; ByReg([495, 539, 0, 0, 0, 0, 0, 0]); Two(ST0, StRm); Bytes(0); Bytes(0)),
-    read!(Register Reg::Is(2), Rm::Is(0); Always; Name(509); Zero; Bytes(0); Bytes(0)),
-    read!(Register Reg::Is(3), Rm::Any; Always; Name(527); Two(StRm, ST0); Bytes(0); Bytes(0)),
-    read!(Register Reg::Is(4), Rm::Any; Always; ByRm([458, 453, 0, 0, 532, 538, 0, 0]); Zero; Bytes(0); Bytes(0)),
-    read!(Register Reg::Is(5), Rm::Any; Always; ByRm([496, 500, 499, 503, 501, 502, 504, 0]); Zero; Bytes(0); Bytes(0)),
-    read!(Register Reg::Is(6), Rm::Any; Always; ByRm([452, 543, 517, 514, 542, 516, 473, 489]); Zero; Bytes(0); Bytes(0)),
-    read!(Register Reg::Is(7), Rm::Any; Always; ByRm([515, 544, 524, 523, 518, 520, 522, 472]); Zero; Bytes(0); Bytes(0)),
+    read!(Memory Reg::Is(0), Rm::Any; Always; Name(495); Two(ST0, M); Bytes(4); Bytes(4)), // FLD
+    read!(Memory Reg::Is(2), Rm::Any; Always; Name(525); Two(M, ST0); Bytes(4); Bytes(4)), // FST
+    read!(Memory Reg::Is(3), Rm::Any; Always; Name(526); Two(M, ST0); Bytes(4); Bytes(4)), // FSTP
+    read!(Memory Reg::Any, Rm::Any; Always; ByReg([0, 0, 0, 0, 498, 0, 512, 0]); One(M); Bytes(63); Bytes(63)), // - - - - FLDENV - FNSTENV -
+    read!(Memory Reg::Any, Rm::Any; Always; ByReg([0, 0, 0, 0, 0, 497, 0, 511]); One(M); Bytes(2); Bytes(2)), // - - - - - FLDCW - FNSTCW
+    read!(Register Reg::Any, Rm::Any; Always; ByReg([495, 539, 0, 0, 0, 0, 0, 0]); Two(ST0, StRm); Bytes(0); Bytes(0)), // FLD FXCH - - - - - -
+    read!(Register Reg::Is(2), Rm::Is(0); Always; Name(509); Zero; Bytes(0); Bytes(0)), // FNOP
+    read!(Register Reg::Is(3), Rm::Any; Always; Name(527); Two(StRm, ST0); Bytes(0); Bytes(0)), // FSTPNCE
+    read!(Register Reg::Is(4), Rm::Any; Always; ByRm([458, 453, 0, 0, 532, 538, 0, 0]); Zero; Bytes(0); Bytes(0)), // FCHS FABS - - FTST FXAM - -
+    read!(Register Reg::Is(5), Rm::Any; Always; ByRm([496, 500, 499, 503, 501, 502, 504, 0]); Zero; Bytes(0); Bytes(0)), // FLD1 FLDL2T FLDL2E FLDPI FLDLG2 FLDLN2 FLDZ -
+    read!(Register Reg::Is(6), Rm::Any; Always; ByRm([452, 543, 517, 514, 542, 516, 473, 489]); Zero; Bytes(0); Bytes(0)), // F2XM1 FYL2X FPTAN FPATAN FXTRACT FPREM1 FDECSTP FINCSTP
+    read!(Register Reg::Is(7), Rm::Any; Always; ByRm([515, 544, 524, 523, 518, 520, 522, 472]); Zero; Bytes(0); Bytes(0)), // FPREM FYL2XP1 FSQRT FSINCOS FRNDINT FSCALE FSIN FCOS
     refusal!(Either Reg::Any, Rm::Any; Always; Zero; BadOpcode AtModRM),
 ];
 
 const ROWS_DA: &[FormRow; 4] = &[
-    read!(Memory Reg::Any, Rm::Any; Always; ByReg([482, 488, 483, 484, 493, 494, 485, 486]); Two(ST0, M); Bytes(4); Bytes(4)),
-    read!(Register Reg::Any, Rm::Any; Always; ByReg([459, 461, 460, 466, 0, 0, 0, 0]); Two(ST0, StRm); Bytes(0); Bytes(0)),
-    read!(Register Reg::Is(5), Rm::Is(1); Always; Name(537); Zero; Bytes(0); Bytes(0)),
+    read!(Memory Reg::Any, Rm::Any; Always; ByReg([482, 488, 483, 484, 493, 494, 485, 486]); Two(ST0, M); Bytes(4); Bytes(4)), // FIADD FIMUL FICOM FICOMP FISUB FISUBR FIDIV FIDIVR
+    read!(Register Reg::Any, Rm::Any; Always; ByReg([459, 461, 460, 466, 0, 0, 0, 0]); Two(ST0, StRm); Bytes(0); Bytes(0)), // FCMOVB FCMOVE FCMOVBE FCMOVU - - - -
+    read!(Register Reg::Is(5), Rm::Is(1); Always; Name(537); Zero; Bytes(0); Bytes(0)), // FUCOMPP
     refusal!(Either Reg::Any, Rm::Any; Always; Zero; BadOpcode AtModRM),
 ];
 
 const ROWS_DB: &[FormRow; 7] = &[
-    read!(Memory Reg::Is(0), Rm::Any; Always; Name(487); Two(ST0, M); Bytes(4); Bytes(4)),
-    read!(Memory Reg::Any, Rm::Any; Always; ByReg([0, 492, 490, 491, 0, 0, 0, 0]); Two(M, ST0); Bytes(4); Bytes(4)),
-    read!(Memory Reg::Is(5), Rm::Any; Always; Name(495); Two(ST0, M); Bytes(10); Bytes(10)),
-    read!(Memory Reg::Is(7), Rm::Any; Always; Name(526); Two(M, ST0); Bytes(10); Bytes(10)),
-    read!(Register Reg::Any, Rm::Any; Always; ByReg([462, 464, 463, 465, 0, 534, 468, 0]); Two(ST0, StRm); Bytes(0); Bytes(0)),
-    read!(Register Reg::Is(4), Rm::Any; Always; ByRm([479, 474, 507, 508, 521, 0, 0, 0]); Zero; Bytes(0); Bytes(0)),
+    read!(Memory Reg::Is(0), Rm::Any; Always; Name(487); Two(ST0, M); Bytes(4); Bytes(4)), // FILD
+    read!(Memory Reg::Any, Rm::Any; Always; ByReg([0, 492, 490, 491, 0, 0, 0, 0]); Two(M, ST0); Bytes(4); Bytes(4)), // - FISTTP FIST FISTP - - - -
+    read!(Memory Reg::Is(5), Rm::Any; Always; Name(495); Two(ST0, M); Bytes(10); Bytes(10)), // FLD
+    read!(Memory Reg::Is(7), Rm::Any; Always; Name(526); Two(M, ST0); Bytes(10); Bytes(10)), // FSTP
+    read!(Register Reg::Any, Rm::Any; Always; ByReg([462, 464, 463, 465, 0, 534, 468, 0]); Two(ST0, StRm); Bytes(0); Bytes(0)), // FCMOVNB FCMOVNE FCMOVNBE FCMOVNU - FUCOMI FCOMI -
+    read!(Register Reg::Is(4), Rm::Any; Always; ByRm([479, 474, 507, 508, 521, 0, 0, 0]); Zero; Bytes(0); Bytes(0)), // FENI8087_NOP FDISI8087_NOP FNCLEX FNINIT FSETPM287_NOP - - -
     refusal!(Either Reg::Any, Rm::Any; Always; Zero; BadOpcode AtModRM),
 ];
 
 const ROWS_DC: &[FormRow; 3] = &[
-    read!(Memory Reg::Any, Rm::Any; Always; ByReg([454, 505, 467, 470, 528, 530, 475, 477]); Two(ST0, M); Bytes(8); Bytes(8)),
-    read!(Register Reg::Any, Rm::Any; Always; ByReg([0, 0, 467, 470, 0, 0, 0, 0]); Two(ST0, StRm); Bytes(0); Bytes(0)),
-    read!(Register Reg::Any, Rm::Any; Always; ByReg([454, 505, 0, 0, 530, 528, 477, 475]); Two(StRm, ST0); Bytes(0); Bytes(0)),
+    read!(Memory Reg::Any, Rm::Any; Always; ByReg([454, 505, 467, 470, 528, 530, 475, 477]); Two(ST0, M); Bytes(8); Bytes(8)), // FADD FMUL FCOM FCOMP FSUB FSUBR FDIV FDIVR
+    read!(Register Reg::Any, Rm::Any; Always; ByReg([0, 0, 467, 470, 0, 0, 0, 0]); Two(ST0, StRm); Bytes(0); Bytes(0)), // - - FCOM FCOMP - - - -
+    read!(Register Reg::Any, Rm::Any; Always; ByReg([454, 505, 0, 0, 530, 528, 477, 475]); Two(StRm, ST0); Bytes(0); Bytes(0)), // FADD FMUL - - FSUBR FSUB FDIVR FDIV
 ];
 
 const ROWS_DD: &[FormRow; 8] = &[
-    read!(Memory Reg::Is(0), Rm::Any; Always; Name(495); Two(ST0, M); Bytes(8); Bytes(8)),
-    read!(Memory Reg::Any, Rm::Any; Always; ByReg([0, 492, 525, 526, 0, 0, 0, 0]); Two(M, ST0); Bytes(8); Bytes(8)),
-    read!(Memory Reg::Any, Rm::Any; Always; ByReg([0, 0, 0, 0, 519, 0, 510, 0]); One(M); Bytes(63); Bytes(63)),
-    read!(Memory Reg::Is(7), Rm::Any; Always; Name(513); One(M); Bytes(2); Bytes(2)),
-    read!(Register Reg::Is(0), Rm::Any; Always; Name(480); One(StRm); Bytes(0); Bytes(0)),
-    read!(Register Reg::Any, Rm::Any; Always; ByReg([0, 539, 0, 0, 533, 536, 0, 0]); Two(ST0, StRm); Bytes(0); Bytes(0)),
-    read!(Register Reg::Any, Rm::Any; Always; ByReg([0, 0, 525, 526, 0, 0, 0, 0]); Two(StRm, ST0); Bytes(0); Bytes(0)),
+    read!(Memory Reg::Is(0), Rm::Any; Always; Name(495); Two(ST0, M); Bytes(8); Bytes(8)), // FLD
+    read!(Memory Reg::Any, Rm::Any; Always; ByReg([0, 492, 525, 526, 0, 0, 0, 0]); Two(M, ST0); Bytes(8); Bytes(8)), // - FISTTP FST FSTP - - - -
+    read!(Memory Reg::Any, Rm::Any; Always; ByReg([0, 0, 0, 0, 519, 0, 510, 0]); One(M); Bytes(63); Bytes(63)), // - - - - FRSTOR - FNSAVE -
+    read!(Memory Reg::Is(7), Rm::Any; Always; Name(513); One(M); Bytes(2); Bytes(2)), // FNSTSW
+    read!(Register Reg::Is(0), Rm::Any; Always; Name(480); One(StRm); Bytes(0); Bytes(0)), // FFREE
+    read!(Register Reg::Any, Rm::Any; Always; ByReg([0, 539, 0, 0, 533, 536, 0, 0]); Two(ST0, StRm); Bytes(0); Bytes(0)), // - FXCH - - FUCOM FUCOMP - -
+    read!(Register Reg::Any, Rm::Any; Always; ByReg([0, 0, 525, 526, 0, 0, 0, 0]); Two(StRm, ST0); Bytes(0); Bytes(0)), // - - FST FSTP - - - -
     refusal!(Either Reg::Any, Rm::Any; Always; Zero; BadOpcode AtModRM),
 ];
 
 const ROWS_DE: &[FormRow; 5] = &[
-    read!(Memory Reg::Any, Rm::Any; Always; ByReg([482, 488, 483, 484, 493, 494, 485, 486]); Two(ST0, M); Bytes(2); Bytes(2)),
-    read!(Register Reg::Is(2), Rm::Any; Always; Name(470); Two(ST0, StRm); Bytes(0); Bytes(0)),
-    read!(Register Reg::Is(3), Rm::Is(1); Always; Name(471); Zero; Bytes(0); Bytes(0)),
-    read!(Register Reg::Any, Rm::Any; Always; ByReg([455, 506, 0, 0, 531, 529, 478, 476]); Two(StRm, ST0); Bytes(0); Bytes(0)),
+    read!(Memory Reg::Any, Rm::Any; Always; ByReg([482, 488, 483, 484, 493, 494, 485, 486]); Two(ST0, M); Bytes(2); Bytes(2)), // FIADD FIMUL FICOM FICOMP FISUB FISUBR FIDIV FIDIVR
+    read!(Register Reg::Is(2), Rm::Any; Always; Name(470); Two(ST0, StRm); Bytes(0); Bytes(0)), // FCOMP
+    read!(Register Reg::Is(3), Rm::Is(1); Always; Name(471); Zero; Bytes(0); Bytes(0)), // FCOMPP
+    read!(Register Reg::Any, Rm::Any; Always; ByReg([455, 506, 0, 0, 531, 529, 478, 476]); Two(StRm, ST0); Bytes(0); Bytes(0)), // FADDP FMULP - - FSUBRP FSUBP FDIVRP FDIVP
     refusal!(Either Reg::Any, Rm::Any; Always; Zero; BadOperand AtModRM),
 ];
 
 const ROWS_DF: &[FormRow; 11] = &[
-    read!(Memory Reg::Is(0), Rm::Any; Always; Name(487); Two(ST0, M); Bytes(2); Bytes(2)),
-    read!(Memory Reg::Any, Rm::Any; Always; ByReg([0, 492, 490, 491, 0, 0, 0, 0]); Two(M, ST0); Bytes(2); Bytes(2)),
-    read!(Memory Reg::Is(4), Rm::Any; Always; Name(456); Two(ST0, M); Bytes(10); Bytes(10)),
-    read!(Memory Reg::Is(5), Rm::Any; Always; Name(487); Two(ST0, M); Bytes(8); Bytes(8)),
-    read!(Memory Reg::Is(6), Rm::Any; Always; Name(457); Two(M, ST0); Bytes(10); Bytes(10)),
-    read!(Memory Reg::Is(7), Rm::Any; Always; Name(491); Two(M, ST0); Bytes(8); Bytes(8)),
-    read!(Register Reg::Is(0), Rm::Any; Always; Name(481); One(StRm); Bytes(0); Bytes(0)),
-    read!(Register Reg::Any, Rm::Any; Always; ByReg([0, 539, 0, 0, 0, 535, 469, 0]); Two(ST0, StRm); Bytes(0); Bytes(0)),
-    read!(Register Reg::Any, Rm::Any; Always; ByReg([0, 0, 526, 526, 0, 0, 0, 0]); Two(StRm, ST0); Bytes(0); Bytes(0)),
-    read!(Register Reg::Is(4), Rm::Is(0); Always; Name(513); One(U(W)); Bytes(0); Bytes(0)),
+    read!(Memory Reg::Is(0), Rm::Any; Always; Name(487); Two(ST0, M); Bytes(2); Bytes(2)), // FILD
+    read!(Memory Reg::Any, Rm::Any; Always; ByReg([0, 492, 490, 491, 0, 0, 0, 0]); Two(M, ST0); Bytes(2); Bytes(2)), // - FISTTP FIST FISTP - - - -
+    read!(Memory Reg::Is(4), Rm::Any; Always; Name(456); Two(ST0, M); Bytes(10); Bytes(10)), // FBLD
+    read!(Memory Reg::Is(5), Rm::Any; Always; Name(487); Two(ST0, M); Bytes(8); Bytes(8)), // FILD
+    read!(Memory Reg::Is(6), Rm::Any; Always; Name(457); Two(M, ST0); Bytes(10); Bytes(10)), // FBSTP
+    read!(Memory Reg::Is(7), Rm::Any; Always; Name(491); Two(M, ST0); Bytes(8); Bytes(8)), // FISTP
+    read!(Register Reg::Is(0), Rm::Any; Always; Name(481); One(StRm); Bytes(0); Bytes(0)), // FFREEP
+    read!(Register Reg::Any, Rm::Any; Always; ByReg([0, 539, 0, 0, 0, 535, 469, 0]); Two(ST0, StRm); Bytes(0); Bytes(0)), // - FXCH - - - FUCOMIP FCOMIP -
+    read!(Register Reg::Any, Rm::Any; Always; ByReg([0, 0, 526, 526, 0, 0, 0, 0]); Two(StRm, ST0); Bytes(0); Bytes(0)), // - - FSTP FSTP - - - -
+    read!(Register Reg::Is(4), Rm::Is(0); Always; Name(513); One(U(W)); Bytes(0); Bytes(0)), // FNSTSW
     refusal!(Either Reg::Any, Rm::Any; Always; Zero; BadOpcode AtModRM),
 ];
 
 /// The line of each reg, for the groups in the order of `RegGroup`.
 pub(crate) const REG_LINES: &[[RegLine; 8]; 15] = &[
     [
-        line!(1 EitherForm E_I B B I8 One One),
-        line!(2 EitherForm E_I B B I8 One One),
-        line!(3 EitherForm E_I B B I8 One One),
-        line!(4 EitherForm E_I B B I8 One One),
-        line!(5 EitherForm E_I B B I8 One One),
-        line!(6 EitherForm E_I B B I8 One One),
-        line!(7 EitherForm E_I B B I8 One One),
-        line!(8 EitherForm E_I B B I8 One One),
+        line!(1 EitherForm E_I B B I8 One One), // ADD
+        line!(2 EitherForm E_I B B I8 One One), // OR
+        line!(3 EitherForm E_I B B I8 One One), // ADC
+        line!(4 EitherForm E_I B B I8 One One), // SBB
+        line!(5 EitherForm E_I B B I8 One One), // AND
+        line!(6 EitherForm E_I B B I8 One One), // SUB
+        line!(7 EitherForm E_I B B I8 One One), // XOR
+        line!(8 EitherForm E_I B B I8 One One), // CMP
     ], // 80
     [
-        line!(1 EitherForm E_I B V Iv V V),
-        line!(2 EitherForm E_I B V Iv V V),
-        line!(3 EitherForm E_I B V Iv V V),
-        line!(4 EitherForm E_I B V Iv V V),
-        line!(5 EitherForm E_I B V Iv V V),
-        line!(6 EitherForm E_I B V Iv V V),
-        line!(7 EitherForm E_I B V Iv V V),
-        line!(8 EitherForm E_I B V Iv V V),
+        line!(1 EitherForm E_I B V Iv V V), // ADD
+        line!(2 EitherForm E_I B V Iv V V), // OR
+        line!(3 EitherForm E_I B V Iv V V), // ADC
+        line!(4 EitherForm E_I B V Iv V V), // SBB
+        line!(5 EitherForm E_I B V Iv V V), // AND
+        line!(6 EitherForm E_I B V Iv V V), // SUB
+        line!(7 EitherForm E_I B V Iv V V), // XOR
+        line!(8 EitherForm E_I B V Iv V V), // CMP
     ], // 81
     [
-        line!(1 EitherForm E_I B V I8 V V),
-        line!(2 EitherForm E_I B V I8 V V),
-        line!(3 EitherForm E_I B V I8 V V),
-        line!(4 EitherForm E_I B V I8 V V),
-        line!(5 EitherForm E_I B V I8 V V),
-        line!(6 EitherForm E_I B V I8 V V),
-        line!(7 EitherForm E_I B V I8 V V),
-        line!(8 EitherForm E_I B V I8 V V),
+        line!(1 EitherForm E_I B V I8 V V), // ADD
+        line!(2 EitherForm E_I B V I8 V V), // OR
+        line!(3 EitherForm E_I B V I8 V V), // ADC
+        line!(4 EitherForm E_I B V I8 V V), // SBB
+        line!(5 EitherForm E_I B V I8 V V), // AND
+        line!(6 EitherForm E_I B V I8 V V), // SUB
+        line!(7 EitherForm E_I B V I8 V V), // XOR
+        line!(8 EitherForm E_I B V I8 V V), // CMP
     ], // 83
     [
-        line!(624 EitherForm E_I B B I8 One One),
-        line!(625 EitherForm E_I B B I8 One One),
-        line!(612 EitherForm E_I B B I8 One One),
-        line!(613 EitherForm E_I B B I8 One One),
-        line!(637 EitherForm E_I B B I8 One One),
-        line!(638 EitherForm E_I B B I8 One One),
-        line!(627 EitherForm E_I B B I8 One One),
-        line!(628 EitherForm E_I B B I8 One One),
+        line!(624 EitherForm E_I B B I8 One One), // ROL
+        line!(625 EitherForm E_I B B I8 One One), // ROR
+        line!(612 EitherForm E_I B B I8 One One), // RCL
+        line!(613 EitherForm E_I B B I8 One One), // RCR
+        line!(637 EitherForm E_I B B I8 One One), // SHL
+        line!(638 EitherForm E_I B B I8 One One), // SHR
+        line!(627 EitherForm E_I B B I8 One One), // SAL
+        line!(628 EitherForm E_I B B I8 One One), // SAR
     ], // C0
     [
-        line!(624 EitherForm E_I B V I8 V V),
-        line!(625 EitherForm E_I B V I8 V V),
-        line!(612 EitherForm E_I B V I8 V V),
-        line!(613 EitherForm E_I B V I8 V V),
-        line!(637 EitherForm E_I B V I8 V V),
-        line!(638 EitherForm E_I B V I8 V V),
-        line!(627 EitherForm E_I B V I8 V V),
-        line!(628 EitherForm E_I B V I8 V V),
+        line!(624 EitherForm E_I B V I8 V V), // ROL
+        line!(625 EitherForm E_I B V I8 V V), // ROR
+        line!(612 EitherForm E_I B V I8 V V), // RCL
+        line!(613 EitherForm E_I B V I8 V V), // RCR
+        line!(637 EitherForm E_I B V I8 V V), // SHL
+        line!(638 EitherForm E_I B V I8 V V), // SHR
+        line!(627 EitherForm E_I B V I8 V V), // SAL
+        line!(628 EitherForm E_I B V I8 V V), // SAR
     ], // C1
     [
-        line!(33 EitherForm E_I B B I8 One One),
+        line!(33 EitherForm E_I B B I8 One One), // MOV
         rows_alone!(),
         rows_alone!(),
         rows_alone!(),
@@ -487,7 +488,7 @@ pub(crate) const REG_LINES: &[[RegLine; 8]; 15] = &[
         rows_alone!(),
     ], // C6
     [
-        line!(33 EitherForm E_I B V Iv V V),
+        line!(33 EitherForm E_I B V Iv V V), // MOV
         rows_alone!(),
         rows_alone!(),
         rows_alone!(),
@@ -497,68 +498,68 @@ pub(crate) const REG_LINES: &[[RegLine; 8]; 15] = &[
         rows_alone!(),
     ], // C7
     [
-        line!(624 EitherForm E_I B B SignedOne One One),
-        line!(625 EitherForm E_I B B SignedOne One One),
-        line!(612 EitherForm E_I B B SignedOne One One),
-        line!(613 EitherForm E_I B B SignedOne One One),
-        line!(637 EitherForm E_I B B SignedOne One One),
-        line!(638 EitherForm E_I B B SignedOne One One),
-        line!(627 EitherForm E_I B B SignedOne One One),
-        line!(628 EitherForm E_I B B SignedOne One One),
+        line!(624 EitherForm E_I B B SignedOne One One), // ROL
+        line!(625 EitherForm E_I B B SignedOne One One), // ROR
+        line!(612 EitherForm E_I B B SignedOne One One), // RCL
+        line!(613 EitherForm E_I B B SignedOne One One), // RCR
+        line!(637 EitherForm E_I B B SignedOne One One), // SHL
+        line!(638 EitherForm E_I B B SignedOne One One), // SHR
+        line!(627 EitherForm E_I B B SignedOne One One), // SAL
+        line!(628 EitherForm E_I B B SignedOne One One), // SAR
     ], // D0
     [
-        line!(624 EitherForm E_I B V SignedOne V V),
-        line!(625 EitherForm E_I B V SignedOne V V),
-        line!(612 EitherForm E_I B V SignedOne V V),
-        line!(613 EitherForm E_I B V SignedOne V V),
-        line!(637 EitherForm E_I B V SignedOne V V),
-        line!(638 EitherForm E_I B V SignedOne V V),
-        line!(627 EitherForm E_I B V SignedOne V V),
-        line!(628 EitherForm E_I B V SignedOne V V),
+        line!(624 EitherForm E_I B V SignedOne V V), // ROL
+        line!(625 EitherForm E_I B V SignedOne V V), // ROR
+        line!(612 EitherForm E_I B V SignedOne V V), // RCL
+        line!(613 EitherForm E_I B V SignedOne V V), // RCR
+        line!(637 EitherForm E_I B V SignedOne V V), // SHL
+        line!(638 EitherForm E_I B V SignedOne V V), // SHR
+        line!(627 EitherForm E_I B V SignedOne V V), // SAL
+        line!(628 EitherForm E_I B V SignedOne V V), // SAR
     ], // D1
     [
-        line!(624 EitherForm E_I B B Cl One One),
-        line!(625 EitherForm E_I B B Cl One One),
-        line!(612 EitherForm E_I B B Cl One One),
-        line!(613 EitherForm E_I B B Cl One One),
-        line!(637 EitherForm E_I B B Cl One One),
-        line!(638 EitherForm E_I B B Cl One One),
-        line!(627 EitherForm E_I B B Cl One One),
-        line!(628 EitherForm E_I B B Cl One One),
+        line!(624 EitherForm E_I B B Cl One One), // ROL
+        line!(625 EitherForm E_I B B Cl One One), // ROR
+        line!(612 EitherForm E_I B B Cl One One), // RCL
+        line!(613 EitherForm E_I B B Cl One One), // RCR
+        line!(637 EitherForm E_I B B Cl One One), // SHL
+        line!(638 EitherForm E_I B B Cl One One), // SHR
+        line!(627 EitherForm E_I B B Cl One One), // SAL
+        line!(628 EitherForm E_I B B Cl One One), // SAR
     ], // D2
     [
-        line!(624 EitherForm E_I B V Cl V V),
-        line!(625 EitherForm E_I B V Cl V V),
-        line!(612 EitherForm E_I B V Cl V V),
-        line!(613 EitherForm E_I B V Cl V V),
-        line!(637 EitherForm E_I B V Cl V V),
-        line!(638 EitherForm E_I B V Cl V V),
-        line!(627 EitherForm E_I B V Cl V V),
-        line!(628 EitherForm E_I B V Cl V V),
+        line!(624 EitherForm E_I B V Cl V V), // ROL
+        line!(625 EitherForm E_I B V Cl V V), // ROR
+        line!(612 EitherForm E_I B V Cl V V), // RCL
+        line!(613 EitherForm E_I B V Cl V V), // RCR
+        line!(637 EitherForm E_I B V Cl V V), // SHL
+        line!(638 EitherForm E_I B V Cl V V), // SHR
+        line!(627 EitherForm E_I B V Cl V V), // SAL
+        line!(628 EitherForm E_I B V Cl V V), // SAR
     ], // D3
     [
-        line!(31 EitherForm E_I B B I8 One One),
-        line!(31 EitherForm E_I B B I8 One One),
-        line!(574 EitherForm E B B Absent One One),
-        line!(573 EitherForm E B B Absent One One),
-        line!(570 EitherForm E B B Absent One One),
-        line!(12 EitherForm E B B Absent One One),
-        line!(444 EitherForm E B B Absent One One),
-        line!(546 EitherForm E B B Absent One One),
+        line!(31 EitherForm E_I B B I8 One One), // TEST
+        line!(31 EitherForm E_I B B I8 One One), // TEST
+        line!(574 EitherForm E B B Absent One One), // NOT
+        line!(573 EitherForm E B B Absent One One), // NEG
+        line!(570 EitherForm E B B Absent One One), // MUL
+        line!(12 EitherForm E B B Absent One One), // IMUL
+        line!(444 EitherForm E B B Absent One One), // DIV
+        line!(546 EitherForm E B B Absent One One), // IDIV
     ], // F6
     [
-        line!(31 EitherForm E_I B V Iv V V),
-        line!(31 EitherForm E_I B V Iv V V),
-        line!(574 EitherForm E B V Absent V V),
-        line!(573 EitherForm E B V Absent V V),
-        line!(570 EitherForm E B V Absent V V),
-        line!(12 EitherForm E B V Absent V V),
-        line!(444 EitherForm E B V Absent V V),
-        line!(546 EitherForm E B V Absent V V),
+        line!(31 EitherForm E_I B V Iv V V), // TEST
+        line!(31 EitherForm E_I B V Iv V V), // TEST
+        line!(574 EitherForm E B V Absent V V), // NOT
+        line!(573 EitherForm E B V Absent V V), // NEG
+        line!(570 EitherForm E B V Absent V V), // MUL
+        line!(12 EitherForm E B V Absent V V), // IMUL
+        line!(444 EitherForm E B V Absent V V), // DIV
+        line!(546 EitherForm E B V Absent V V), // IDIV
     ], // F7
     [
-        line!(547 EitherForm E B B Absent One One),
-        line!(443 EitherForm E B B Absent One One),
+        line!(547 EitherForm E B B Absent One One), // INC
+        line!(443 EitherForm E B B Absent One One), // DEC
         rows_alone!(),
         rows_alone!(),
         rows_alone!(),
@@ -567,13 +568,13 @@ pub(crate) const REG_LINES: &[[RegLine; 8]; 15] = &[
         rows_alone!(),
     ], // FE
     [
-        line!(547 EitherForm E B V Absent V V),
-        line!(443 EitherForm E B V Absent V V),
-        line!(58 EitherForm E B Q Absent Eight Eight),
+        line!(547 EitherForm E B V Absent V V), // INC
+        line!(443 EitherForm E B V Absent V V), // DEC
+        line!(58 EitherForm E B Q Absent Eight Eight), // CALL
         rows_alone!(),
-        line!(54 EitherForm E B Q Absent Eight V),
+        line!(54 EitherForm E B Q Absent Eight V), // JMP
         rows_alone!(),
-        line!(9 EitherForm E B V Absent Push Push),
+        line!(9 EitherForm E B V Absent Push Push), // PUSH
         rows_alone!(),
     ], // FF
 ];

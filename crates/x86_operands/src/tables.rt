@@ -1,4 +1,5 @@
-//! The rows of the plain forms: where, the prefixes, and what is there. A name is the number of an opcode, and 0 is none.
+//! The rows of the plain forms: where, the prefixes, and what is there. A name is the number of an opcode, which
+//! the comment spells, and 0 is none.
 //!
 //! Written by tools/tables.py from specs/Rows.antt.
 //! The proof doesn't rest on that script: a wrong entry is refused.
@@ -42,7 +43,7 @@ const UNSIGNED_ONE: Letter = Letter::Last(Last::UnsignedOne);
 pub(crate) const ROWS: &[FormRow; 157] = &[
     refusal!(Either Reg::Any, Rm::Any; Always; Zero; Incomplete AtModRM),
     read!(Bare Reg::Any, Rm::Any; Always; Own; One(Z(RegisterSlot::Reg, Vq)); Bytes(8); Bytes(8)), // Zv_R
-    read!(Bare Reg::Any, Rm::Any; Register0; Name(76); Zero; Bytes(0); Bytes(0)), // Zv_AX_R
+    read!(Bare Reg::Any, Rm::Any; Register0; Name(76); Zero; Bytes(0); Bytes(0)), // Zv_AX_R NOP
     read!(Bare Reg::Any, Rm::Any; Always; Own; Two(A(V), Z(RegisterSlot::Rm, V)); Bytes(0); Bytes(0)), // Zv_AX_R
     read!(Bare Reg::Any, Rm::Any; Always; Own; Two(Z(RegisterSlot::Reg, B), U8); Bytes(0); Bytes(0)), // Zb_Ib_R
     read!(Bare Reg::Any, Rm::Any; Always; Own; Two(Z(RegisterSlot::Reg, V), IVQ); Bytes(0); Bytes(0)), // Zv_Ivq_R
@@ -74,12 +75,12 @@ pub(crate) const ROWS: &[FormRow; 157] = &[
     refusal!(Either Reg::Is(1), Rm::Any; Always; Zero; BadOperand AfterAddress), // Sw_Ew
     read!(Either Reg::From(0, 5), Rm::Any; Always; Own; Two(Sr, E(W)); Bytes(2); Of(V)), // Sw_Ew
     refusal!(Either Reg::Any, Rm::Any; Always; Zero; BadOperand AfterAddress), // Sw_Ew
-    read!(Bare Reg::Any, Rm::Any; RexW; Name(429); Zero; Bytes(0); Bytes(0)), // CVT_AA
-    read!(Bare Reg::Any, Rm::Any; With66; Name(427); Zero; Bytes(0); Bytes(0)), // CVT_AA
-    read!(Bare Reg::Any, Rm::Any; Always; Name(442); Zero; Bytes(0); Bytes(0)), // CVT_AA
-    read!(Bare Reg::Any, Rm::Any; RexW; Name(440); Zero; Bytes(0); Bytes(0)), // CVT_DA
-    read!(Bare Reg::Any, Rm::Any; With66; Name(441); Zero; Bytes(0); Bytes(0)), // CVT_DA
-    read!(Bare Reg::Any, Rm::Any; Always; Name(428); Zero; Bytes(0); Bytes(0)), // CVT_DA
+    read!(Bare Reg::Any, Rm::Any; RexW; Name(429); Zero; Bytes(0); Bytes(0)), // CVT_AA CDQE
+    read!(Bare Reg::Any, Rm::Any; With66; Name(427); Zero; Bytes(0); Bytes(0)), // CVT_AA CBW
+    read!(Bare Reg::Any, Rm::Any; Always; Name(442); Zero; Bytes(0); Bytes(0)), // CVT_AA CWDE
+    read!(Bare Reg::Any, Rm::Any; RexW; Name(440); Zero; Bytes(0); Bytes(0)), // CVT_DA CQO
+    read!(Bare Reg::Any, Rm::Any; With66; Name(441); Zero; Bytes(0); Bytes(0)), // CVT_DA CWD
+    read!(Bare Reg::Any, Rm::Any; Always; Name(428); Zero; Bytes(0); Bytes(0)), // CVT_DA CDQ
     read!(Bare Reg::Any, Rm::Any; Always; Own; Zero; Named(Size::Bare); Named(Size::Bare)), // Nothing
     read!(Bare Reg::Any, Rm::Any; Always; Own; Zero; Bytes(0); Bytes(0)), // AH
     read!(Bare Reg::Any, Rm::Any; Always; Own; Two(A(B), Offset); Bytes(1); Bytes(1)), // AL_Ob
@@ -98,10 +99,10 @@ pub(crate) const ROWS: &[FormRow; 157] = &[
     read!(Bare Reg::Any, Rm::Any; Always; Own; Two(X16, U8); Bytes(8); Bytes(8)), // Iw_Ib
     read!(Bare Reg::Any, Rm::Any; Always; Own; One(THREE); Bytes(0); Bytes(0)), // I_3
     read!(Bare Reg::Any, Rm::Any; Always; Own; One(U8); Bytes(0); Bytes(0)), // Ib
-    read!(Bare Reg::Any, Rm::Any; RexW; Name(554); Zero; Bytes(0); Bytes(0)), // Fw
-    read!(Bare Reg::Any, Rm::Any; With66; Name(552); Zero; Bytes(0); Bytes(0)), // Fw
-    read!(Bare Reg::Any, Rm::Any; Always; Name(553); Zero; Bytes(0); Bytes(0)), // Fw
-    read!(Bare Reg::Any, Rm::Any; With67; Name(555); One(I8); Bytes(0); Bytes(0)), // CXZ
+    read!(Bare Reg::Any, Rm::Any; RexW; Name(554); Zero; Bytes(0); Bytes(0)), // Fw IRETQ
+    read!(Bare Reg::Any, Rm::Any; With66; Name(552); Zero; Bytes(0); Bytes(0)), // Fw IRET
+    read!(Bare Reg::Any, Rm::Any; Always; Name(553); Zero; Bytes(0); Bytes(0)), // Fw IRETD
+    read!(Bare Reg::Any, Rm::Any; With67; Name(555); One(I8); Bytes(0); Bytes(0)), // CXZ JECXZ
     read!(Bare Reg::Any, Rm::Any; Always; Own; One(I8); Bytes(0); Bytes(0)), // CXZ
     read!(Bare Reg::Any, Rm::Any; Always; Own; Two(A(B), U8); Bytes(0); Bytes(0)), // AL_Ib
     read!(Bare Reg::Any, Rm::Any; Always; Own; Two(A(Vd), U8); Bytes(0); Bytes(0)), // AX_Ib
@@ -121,11 +122,11 @@ pub(crate) const ROWS: &[FormRow; 157] = &[
     read!(Either Reg::Any, Rm::Any; Always; Own; Three(E(V), G(V), I8); Of(V); Of(V)), // Ev_Gv_Ib
     read!(Either Reg::Any, Rm::Any; Always; Own; Three(E(V), G(V), Implied(RegisterSlot::Third, 1, RegisterClass::B)); Of(V); Of(V)), // Ev_Gv_CL
     read!(Bare Reg::Any, Rm::Any; Always; Own; One(Implied(RegisterSlot::Reg, 5, RegisterClass::S)); Bytes(8); Bytes(8)), // GS
-    read!(Memory Reg::Any, Rm::Any; Opcode(128); Own; Two(G(V), M); FarPointer; FarPointer), // INV_Gv_M
-    read!(Memory Reg::Any, Rm::Any; Opcode(129); Own; Two(G(V), M); FarPointer; FarPointer), // INV_Gv_M
-    read!(Memory Reg::Any, Rm::Any; Opcode(127); Own; Two(G(V), M); FarPointer; FarPointer), // INV_Gv_M
-    read!(Memory Reg::Any, Rm::Any; Opcode(391); Own; Two(G(Q), M); Bytes(64); Bytes(64)), // INV_Gv_M
-    read!(Memory Reg::Any, Rm::Any; Opcode(389); Own; Two(G(Q), M); Bytes(64); Bytes(64)), // INV_Gv_M
+    read!(Memory Reg::Any, Rm::Any; Opcode(128); Own; Two(G(V), M); FarPointer; FarPointer), // INV_Gv_M LFS
+    read!(Memory Reg::Any, Rm::Any; Opcode(129); Own; Two(G(V), M); FarPointer; FarPointer), // INV_Gv_M LGS
+    read!(Memory Reg::Any, Rm::Any; Opcode(127); Own; Two(G(V), M); FarPointer; FarPointer), // INV_Gv_M LSS
+    read!(Memory Reg::Any, Rm::Any; Opcode(391); Own; Two(G(Q), M); Bytes(64); Bytes(64)), // INV_Gv_M ENQCMD
+    read!(Memory Reg::Any, Rm::Any; Opcode(389); Own; Two(G(Q), M); Bytes(64); Bytes(64)), // INV_Gv_M ENQCMDS
     read!(Memory Reg::Any, Rm::Any; Always; Own; Two(G(Q), M); Bytes(16); Bytes(16)), // INV_Gv_M
     refusal!(Either Reg::Any, Rm::Any; Always; Zero; BadOperand AtModRM), // INV_Gv_M
     read!(Either Reg::Any, Rm::Any; Always; Own; Two(G(V), E(B)); Bytes(1); Bytes(0)), // Gv_Eb
@@ -138,8 +139,8 @@ pub(crate) const ROWS: &[FormRow; 157] = &[
     refusal!(Either Reg::Any, Rm::Any; Always; Two(M, G(X)); BadOperand AtModRM), // M_G_xmm
     read!(Either Reg::Any, Rm::Any; Always; Own; Two(G(X), Emm); Bytes(8); Of(V)), // G_xmm_E_mm
     read!(Either Reg::Any, Rm::Any; Always; Own; Two(Gmm, E(X)); Bytes(16); Of(V)), // G_mm_E_xmm
-    refusal!(Register Reg::Any, Rm::Any; Opcode(237); Two(G(X), E(X)); BadOperand AtModRM), // PMOVX_G_E_xmm
-    refusal!(Register Reg::Any, Rm::Any; Opcode(238); Two(G(X), E(X)); BadOperand AtModRM), // PMOVX_G_E_xmm
+    refusal!(Register Reg::Any, Rm::Any; Opcode(237); Two(G(X), E(X)); BadOperand AtModRM), // PMOVX_G_E_xmm MOVLPD
+    refusal!(Register Reg::Any, Rm::Any; Opcode(238); Two(G(X), E(X)); BadOperand AtModRM), // PMOVX_G_E_xmm MOVHPD
     read!(Either Reg::Any, Rm::Any; Always; Own; Two(G(X), E(X)); Named(Size::Extend); Of(V)), // PMOVX_G_E_xmm
     read!(Register Reg::Any, Rm::Any; Always; Own; Two(G(D), U(X)); Of(V); Of(V)), // Gd_U_xmm
     refusal!(Either Reg::Any, Rm::Any; Always; Two(G(D), U(X)); BadOperand AfterAddress), // Gd_U_xmm
@@ -165,7 +166,7 @@ pub(crate) const ROWS: &[FormRow; 157] = &[
     read!(Either Reg::Any, Rm::Any; Always; Own; Two(G(X), E(Dq)); Of(V); Of(V)), // G_xmm_Edq
     read!(Register Reg::Any, Rm::Any; Always; Own; Two(G(X), U(X)); Of(V); Of(V)), // G_U_xmm
     refusal!(Either Reg::Any, Rm::Any; Always; Two(G(X), U(X)); BadOperand AfterAddress), // G_U_xmm
-    read!(Either Reg::Any, Rm::Any; RexW; Name(220); Two(E(Dq), G(X)); Of(Dq); Of(V)), // Edq_G_xmm
+    read!(Either Reg::Any, Rm::Any; RexW; Name(220); Two(E(Dq), G(X)); Of(Dq); Of(V)), // Edq_G_xmm MOVQ
     read!(Either Reg::Any, Rm::Any; Always; Own; Two(E(Dq), G(X)); Of(Dq); Of(V)), // Edq_G_xmm
     read!(Either Reg::Any, Rm::Any; Always; Own; Three(G(X), E(D), U8); Bytes(2); Of(V)), // G_xmm_Ew_Ib
     read!(Register Reg::Any, Rm::Any; Always; Own; Three(G(D), U(X), U8); Of(V); Of(V)), // G_U_xmm_Ub
@@ -192,11 +193,11 @@ pub(crate) const ROWS: &[FormRow; 157] = &[
     read!(Either Reg::Any, Rm::Any; Always; Own; Two(G(Dq), E(V)); Bytes(4); Of(V)), // Gdq_Ev
     read!(Either Reg::Any, Rm::Any; Always; Own; Three(G(X), E(X), U8); Bytes(16); Of(V)), // G_E_xmm_Ub
     read!(Either Reg::Any, Rm::Any; Always; Own; Three(E(V), G(X), U8); Named(Size::Extract); Named(Size::Extract)), // Ev_G_xmm_Ib
-    read!(Either Reg::Any, Rm::Any; RexW; Name(577); Three(E(V), G(X), U8); Of(Dq); Of(Dq)), // Pextr_dq
-    read!(Either Reg::Any, Rm::Any; Always; Name(411); Three(E(V), G(X), U8); Of(Dq); Of(Dq)), // Pextr_dq
+    read!(Either Reg::Any, Rm::Any; RexW; Name(577); Three(E(V), G(X), U8); Of(Dq); Of(Dq)), // Pextr_dq PEXTRQ
+    read!(Either Reg::Any, Rm::Any; Always; Name(411); Three(E(V), G(X), U8); Of(Dq); Of(Dq)), // Pextr_dq PEXTRD
     read!(Either Reg::Any, Rm::Any; Always; Own; Three(G(X), E(X), U8); Named(Size::Insert); Of(V)), // G_Ev_xmm_Ib
-    read!(Either Reg::Any, Rm::Any; RexW; Name(599); Three(G(X), E(X), U8); Of(Dq); Of(V)), // Pinsr_dq
-    read!(Either Reg::Any, Rm::Any; Always; Name(414); Three(G(X), E(X), U8); Of(Dq); Of(V)), // Pinsr_dq
+    read!(Either Reg::Any, Rm::Any; RexW; Name(599); Three(G(X), E(X), U8); Of(Dq); Of(V)), // Pinsr_dq PINSRQ
+    read!(Either Reg::Any, Rm::Any; Always; Name(414); Three(G(X), E(X), U8); Of(Dq); Of(V)), // Pinsr_dq PINSRD
 ];
 
 /// The first row of each ordinal, and the one after its last. A form that carries a number has eight ordinals.
