@@ -22,7 +22,7 @@ by letter. The links of the pages of `LINKING` are to files and headings that ar
 README.md or a page of docs/ names by its crate, by tools/ or by docs/ is there, but for those of docs/CHANGES.md.
 
 Reasons of tools/compare: those of tools/judge/reasons.c are the rows of their section of docs/DIFFERENCES.md. The picture docs/speed.svg is
-what tools/chart.py draws.
+what tools/chart.py draws. The modules of lemmas in docs/DECISIONS.md are those that proofs of x86_decode import.
 """
 
 import os
@@ -310,12 +310,23 @@ def read_reasons(page):
     return len(unlike)
 
 
+def read_lemmas(page):
+    """Holds the modules of lemmas that proofs of x86_decode import against their table, and answers how many are in one alone."""
+    texts = "\n".join(path.read_text() for path in (TOP / "crates" / "x86_decode" / "proofs").rglob("*.antt"))
+    imported = {*re.findall(r"^use Rattle\.(?!x86_decode)(x86_\w+)\.proofs\.(\w+)", texts, re.M)}
+    rows = re.findall(r"^\| `(x86_\w+)` ((?:\w+Lemmas(?:, )?)+) \|", (TOP / page).read_text(), re.M)
+    unlike = imported ^ {(crate, module) for crate, modules in rows for module in modules.split(", ")}
+    for crate, module in sorted(unlike):
+        print(f"pages: {page}: {module} of {crate} is imported by x86_decode without a row, or has a row alone", file=sys.stderr)
+    return len(unlike)
+
+
 def main():
     readmes = [f"crates/{crate}/README.md" for crate in re.findall(r"^(\w+)\b.*:", (TOP / "crates.txt").read_text(), re.M)]
     wrong = read_guide("docs/GUIDE.md", CODE, has_outputs=True) + read_guide("README.md", CODE) + sum(read_quotes(page) for page in QUOTING)
     wrong += sum(read_size(page) or read_guide(page, TESTS) for page in readmes)
     wrong += sum(read_links(page) for page in LINKING) + read_chart() + read_reasons("docs/DIFFERENCES.md")
-    wrong += sum(read_paths(page) for page in ["README.md", *NAMING])
+    wrong += sum(read_paths(page) for page in ["README.md", *NAMING]) + read_lemmas("docs/DECISIONS.md")
     if os.access(PROGRAM, os.X_OK):
         wrong += run_examples("README.md") + sum(run_examples(page) for page in readmes if (TOP / page).exists())
         wrong += run_examples("docs/USAGE.md") + run_statuses("docs/USAGE.md") + run_texts("docs/USAGE.md")

@@ -5,7 +5,7 @@ ghost use Rattle.x86_operands.specs.Columns.{choose, is_there, is_placed, is_pre
 
 use crate::letters::{Letters, RowSize};
 use crate::plans::{Fault, Moment, Plan, PrefixChange, Verdict};
-use x86_fields::{ModRM, Prefixes};
+use x86_fields::{Mandatory, ModRM, Prefixes};
 use x86_forms::TableRow;
 use x86_opcodes::Opcode;
 
@@ -148,13 +148,14 @@ impl FormRow {
     fn has_prefixes(&self, own: &TableRow, prefixes: &Prefixes) -> bool
         ensures { result ≡ is_prefixed self.now.when own.now prefixes.now }
     {
+        let mandatory = prefixes.mandatory();
         match self.when {
             When::Always => true,
-            When::NoPrefix => !prefixes.repnz() && !prefixes.rep() && !prefixes.operand_size(),
-            When::NoRepeat => !prefixes.repnz() && !prefixes.rep(),
-            When::Only66 => !prefixes.repnz() && !prefixes.rep() && prefixes.operand_size(),
-            When::F2 => prefixes.repnz(),
-            When::F3 => prefixes.rep(),
+            When::NoPrefix => matches!(mandatory, Mandatory::Absent),
+            When::NoRepeat => matches!(mandatory, Mandatory::Absent | Mandatory::OperandSize),
+            When::Only66 => matches!(mandatory, Mandatory::OperandSize),
+            When::F2 => matches!(mandatory, Mandatory::F2),
+            When::F3 => matches!(mandatory, Mandatory::F3),
             When::With66 => prefixes.operand_size(),
             When::With67 => prefixes.address_size(),
             When::F3With66 => prefixes.rep() && prefixes.operand_size(),
