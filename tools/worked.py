@@ -2,9 +2,9 @@
 """worked.py: names each row of a form, and each of eight names in a row, that no worked line of x86_vectors reaches.
 
 The proof holds rows against what their columns mean (specs/Columns.antt of x86_operands), and the code has the same
-columns. What they mean is held against the manual by worked lines: of each row one that reaches it, with the answer that
-the manual has. The script finds the row itself, from the prefixes and the opcode byte of a line (Intel SDM volume 2,
-section 2.1). The status is 0 where there is none."""
+columns. What they mean is tested by lines that were worked out by hand, of each row one that reaches it. The script
+finds the row itself, from the prefixes and the opcode byte of a line (Intel SDM volume 2, section 2.1). The status is 0
+where none is missing."""
 
 import re
 import sys
