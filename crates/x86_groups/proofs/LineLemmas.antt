@@ -1,20 +1,16 @@
 -- The line of each reg has the plan of its rows.
 use Rattle.std.proofs.Common.{◌≡◌, IsTrue, ℕ, zero, suc, ◌<◌, Bool, true, false, ◌&&◌, if◌then◌else◌, [], slice_index_or, refl, sym, ap, ◌∙◌, arith, true≢false, None, Result, Ok, Err}
-use Rattle.std.specs.List.{list_all}
 use Rattle.x86_operands.specs.contracts.encodings.RegGroup.{the_type}
 use Rattle.std.proofs.lemmas.Bool.{and_parts}
-use Rattle.x86_groups.specs.Vocabulary.{Prefixes, TableRow, RegGroup, Size, reg_field, is_memory, Letter, Letters, RowSize, Named, Names, Own, Content, Reads, Refuses, DecodeError, Form, EitherForm, Plan}
-use Rattle.x86_opcodes.specs.Names.{Invalid}
+use Rattle.x86_groups.specs.Vocabulary.{Prefixes, TableRow, RegGroup, Size, reg_field, is_memory, DecodeError, Form, EitherForm, Plan}
 use Rattle.x86_operands.specs.declared.encodings.RegGroup.TheVariants as group
-use Rattle.x86_operands.specs.Forms.{group_form, row_with}
+use Rattle.x86_operands.specs.Forms.{group_form}
 use Rattle.x86_operands.specs.Encodings.{is_sound, size_bytes, is_described, plan_of}
 use Rattle.x86_groups.specs.declared.by_reg.RegLine.{RegLine}
 use Rattle.x86_groups.specs.declared.tables.TheConstants.{REG_LINES}
-use Rattle.x86_operands.specs.declared.letters.Letter.TheVariants as letter
-use Rattle.x86_operands.specs.Columns.{choose, named, letter_encoding, opcode_of, operand_encodings, plan_of_row, row_bytes}
+use Rattle.x86_operands.specs.Columns.{choose, named, plan_of_row}
 use Rattle.x86_groups.specs.Rows.{group_rows}
 use Rattle.x86_groups.specs.Groups.{Chooses, has_either_form, reg_plan, group_fault, group_modrm, group_plan, group_record}
-use Rattle.x86_operands.proofs.ContentLemmas.{chosen_has, letters_list, operands_same}
 use Rattle.x86_arch.specs.Reader.{State}
 use Rattle.x86_fields.specs.Steps.{then_from, ◌>>=◌}
 use Rattle.x86_forms.specs.Groups.{is_group}

@@ -131,7 +131,7 @@ impl FormRow {
         match self.at.reg {
             Reg::Any => true,
             Reg::Is(reg) => modrm.reg_field() == reg,
-            Reg::From(first, last) => first <= modrm.reg_field() && modrm.reg_field() <= last,
+            Reg::From(first, last) => (first..=last).contains(&modrm.reg_field()),
         }
     }
 
