@@ -210,19 +210,25 @@ def states(rows):
             yield here
 
 
+def first(rows, *where):
+    """The place of the first row that holds, or None."""
+    return next((at for at, each in enumerate(rows) if each.holds(*where)), None)
+
+
+def reached(form, rows, choices=(False, True)):
+    """The places of the rows that a ModRM byte reaches under some prefixes and choice, and None if none holds somewhere."""
+    memory = [False] if form in without_mod() else [False, True]
+    return {first(rows, *where) for where in product(memory, range(8), range(8), choices, [*states(rows)])}
+
+
 def checked(function, form, rows):
     """The rows of a form, if each is reached, there is always one, and all have a ModRM byte or none has."""
     name = f"{function.removesuffix('_rows')} {name_of(form)}"
-    reached, gap = set(), False
-    forms_of_modrm = [False] if form in without_mod() else [True, False]
-    for memory, reg, rm, strict, marks in product(forms_of_modrm, range(8), range(8), [True, False], [*states(rows)]):
-        here = next((at for at, each in enumerate(rows) if each.holds(memory, reg, rm, strict, marks)), None)
-        reached.add(here)
-        gap = gap or here is None
+    here = reached(form, rows)
     for at, each in enumerate(rows):
-        if at not in reached:
+        if at not in here:
             sys.exit(f"tables.py: {name}: never reached: {each.text}")
-    if gap:
+    if None in here:
         sys.exit(f"tables.py: {name} leaves a gap: end it with `otherwise`")
     if len({each.place == "Bare" for each in rows}) > 1:
         sys.exit(f"tables.py: {name} has rows with ModRM and rows without")

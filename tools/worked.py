@@ -2,9 +2,10 @@
 """worked.py: names each row of a form, and each of eight names in a row, that no worked line of x86_vectors reaches.
 
 The proof holds rows against what their columns mean (specs/Columns.antt of x86_operands), and the code has the same
-columns. What they mean is tested by lines that were worked out by hand, of each row one that reaches it. The script
-finds the row itself, from the prefixes and the opcode byte of a line (Intel SDM volume 2, section 2.1). The status is 0
-where none is missing."""
+columns. What they mean is tested by lines that were worked out by hand. A row that is read needs one that is accepted
+there, and a row that is refused one with its error. The script finds the row itself, from the prefixes and the opcode
+byte of a line (Intel SDM volume 2, section 2.1). The lines are of the default decoder. What the strict choice refuses
+besides is a law (`x86_groups::laws::choices_differ_on_fences`). The status is 0 where no line is missing."""
 
 import re
 import sys
@@ -13,7 +14,9 @@ import form_rows
 import tables
 
 VECTORS = tables.TOP / "crates" / "x86_vectors" / "src"
-LINE = re.compile(r'^(?:.*")?((?:[0-9a-f]{2} ?)+) => ', re.M)
+LINE = re.compile(r'^(?:.*")?((?:[0-9a-f]{2} ?)+) => (\d+ .*?)(?:";)?$', re.M)
+ACCEPTED = re.compile(r"\d+ \d+ ")  # the place and the length; of a refusal there is one number
+ERRORS = {"BadOpcode": "invalid opcode", "BadOperand": "invalid operand", "Incomplete": "the decoder is incomplete"}
 MARKS = {0xF2: "F2", 0xF3: "F3", 0x66: "66", 0x67: "67"}
 PREFIXES = {*MARKS, 0xF0, 0x26, 0x2E, 0x36, 0x3E, 0x64, 0x65}
 REX = range(0x40, 0x50)
@@ -42,7 +45,7 @@ def opcode_map(rest):
 
 
 def found(encoding, maps):
-    """The form of an encoding, the marks that its rows go by, and ModRM: C0 where there is none."""
+    """The form of an encoding, the marks that its rows go by, and the byte after the opcode byte, if there is one."""
     marks, has_b, rest = prefixes(encoding)
     of, rest = opcode_map(rest)
     column = next((COLUMNS[mark] for mark in COLUMNS if mark in marks), "Plain")
@@ -50,24 +53,29 @@ def found(encoding, maps):
         if byte == rest[0] and tables.has_column(columns, column):
             marks.add(f"opcode.{opcode}")
             marks.update([] if number or has_b else ["register 0"])
-            return form, marks, rest[1] if len(rest) > 1 else 0xC0
+            return form, marks, rest[1] if len(rest) > 1 else None
     return None
 
 
-def reached(rows, form, modrm, marks):
-    """The rows that hold at a ModRM byte, one for each choice, and the place in its eight names."""
-    mod, reg, rm = modrm >> 6, modrm >> 3 & 7, modrm & 7
-    for strict in (False, True):
-        memory = mod < 3 and form not in form_rows.without_mod()
-        each = next(each for each in rows if each.holds(memory, reg, rm, strict, marks))
-        place = {"by_reg": reg, "by_rm": rm}.get(each.names[0]) if isinstance(each.names, list) else None
-        yield form, rows.index(each), place
+def judges(answer, each):
+    """Whether an answer is that of a row: an instruction where it is read, and its error where it is refused."""
+    return answer.endswith(ERRORS[each.error.split()[0]]) if each.error else bool(ACCEPTED.match(answer))
+
+
+def reached(rows, form, modrm, marks, answer):
+    """The row whose answer this is, and the place in its eight names, if there is one."""
+    if modrm is None and rows[0].place != "Bare":
+        return None
+    mod, reg, rm = (modrm or 0) >> 6, (modrm or 0) >> 3 & 7, (modrm or 0) & 7
+    at = form_rows.first(rows, mod < 3 and form not in form_rows.without_mod(), reg, rm, False, marks)
+    place = {"by_reg": reg, "by_rm": rm}.get(rows[at].names[0]) if isinstance(rows[at].names, list) else None
+    return (form, at, place) if judges(answer, rows[at]) else None
 
 
 def wanted(rows, form):
-    """What of a form is to be reached: each row, and each of eight names that it has."""
-    for at, each in enumerate(rows):
-        names = each.names[1:] if isinstance(each.names, list) and each.names[0] != "Name" else []
+    """What of a form is to be reached: each row of the default decoder, and each of eight names that it has."""
+    for at in sorted(form_rows.reached(form, rows, [False])):
+        names = rows[at].names[1:] if isinstance(rows[at].names, list) and rows[at].names[0] != "Name" else []
         places = [place for place, name in enumerate(names) if name != "none"] or [None]
         yield from ((form, at, place) for place in places)
 
@@ -76,10 +84,10 @@ def main():
     every = {**form_rows.rows_of(form_rows.PLAIN), **form_rows.rows_of(form_rows.GROUPS)}
     every.pop("f")
     maps, here = tables.rows(), set()
-    for encoding in (bytes.fromhex(text) for path in VECTORS.glob("*.rt") for text in LINE.findall(path.read_text())):
-        if row := found(encoding, maps):
+    for text, answer in (line for path in VECTORS.glob("*.rt") for line in LINE.findall(path.read_text())):
+        if row := found(bytes.fromhex(text), maps):
             form, marks, modrm = row
-            here.update(reached(every[form], form, modrm, marks))
+            here.add(reached(every[form], form, modrm, marks, answer))
     missed = [each for form, rows in every.items() for each in wanted(rows, form) if each not in here]
     for form, at, place in missed:
         name = "" if place is None else f", its name {every[form][at].names[1:][place]}"
