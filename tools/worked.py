@@ -1,9 +1,10 @@
 #!/usr/bin/env python3
-"""worked.py: names each row of a form, and each of eight names in a row, that no worked line of x86_vectors reaches.
+"""worked.py: names each row of an opcode map or of a form, and each of eight names in a row, that no worked line of
+x86_vectors reaches.
 
 The proof holds rows against what their columns mean (specs/Columns.antt of x86_operands), and the code has the same
-columns. What they mean is tested by lines that were worked out by hand. A row that is read needs one that is accepted
-there, and a row that is refused one with its error. The script finds the row itself, from the prefixes and the opcode
+columns. What they mean is tested by lines that come from the manual or from another decoder. A row of an opcode map,
+and one of a form that is read, needs a line that is accepted there, and a row that is refused one with its error. The script finds the row itself, from the prefixes and the opcode
 byte of a line (Intel SDM volume 2, section 2.1). The lines are of the default decoder. What the strict choice refuses
 besides is a law (`x86_groups::laws::choices_differ_on_fences`). The status is 0 where no line is missing."""
 
@@ -45,15 +46,17 @@ def opcode_map(rest):
 
 
 def found(encoding, maps):
-    """The form of an encoding, the marks that its rows go by, and the byte after the opcode byte, if there is one."""
+    """The row of an opcode map that an encoding has, the marks that the rows of its form go by, and the byte after the
+    opcode byte, if there is one."""
     marks, has_b, rest = prefixes(encoding)
     of, rest = opcode_map(rest)
     column = next((COLUMNS[mark] for mark in COLUMNS if mark in marks), "Plain")
-    for columns, byte, opcode, form, number in maps[of] if rest else []:
+    for row in maps[of] if rest else []:
+        columns, byte, opcode, _, number = row
         if byte == rest[0] and tables.has_column(columns, column):
             marks.add(f"opcode.{opcode}")
             marks.update([] if number or has_b else ["register 0"])
-            return form, marks, rest[1] if len(rest) > 1 else None
+            return (of, row), marks, rest[1] if len(rest) > 1 else None
     return None
 
 
@@ -85,14 +88,18 @@ def main():
     every.pop("f")
     maps, here = tables.rows(), set()
     for text, answer in (line for path in VECTORS.glob("*.rt") for line in LINE.findall(path.read_text())):
-        if row := found(bytes.fromhex(text), maps):
-            form, marks, modrm = row
-            here.add(reached(every[form], form, modrm, marks, answer))
+        if place := found(bytes.fromhex(text), maps):
+            (of, row), marks, modrm = place
+            here.add(reached(every[row[3]], row[3], modrm, marks, answer))
+            here.update({(of, row)} if ACCEPTED.match(answer) else set())
+    alone = [(of, row) for of, rows in maps.items() for row in rows if (of, row) not in here]
+    for of, (columns, byte, opcode, form, _) in alone:
+        print(f"worked.py: no worked line has the row of {of} at {byte:02x} in column {columns}: {opcode} {form}")
     missed = [each for form, rows in every.items() for each in wanted(rows, form) if each not in here]
     for form, at, place in missed:
         name = "" if place is None else f", its name {every[form][at].names[1:][place]}"
         print(f"worked.py: no worked line reaches a row of {form}: {every[form][at].text}{name}")
-    return 1 if missed else 0
+    return 1 if alone or missed else 0
 
 
 if __name__ == "__main__":

@@ -11,7 +11,7 @@ use Rattle.x86_forms.specs.declared.Form.TheVariants as form
 use Rattle.x86_operands.specs.declared.encodings.Last.TheVariants.{I8, U8, Iv, SignedOne}
 use Rattle.x86_operands.specs.declared.letters.Letter.TheVariants.{E, G, U, M, Gmm, Emm, Umm, Cr, Dr, X8, Jv, StRm, RdInReg, Last}
 use Rattle.x86_operands.specs.declared.letters.Letters.TheVariants.{Zero, One, Two, Three, Four}
-use Rattle.x86_operands.specs.declared.rows.When.TheVariants.{Always, NoPrefix, NoRepeat, Only66, F2, F3, With66, F3With66, RexW, RexR}
+use Rattle.x86_operands.specs.declared.rows.When.TheVariants.{Always, NoPrefix, NoRepeat, Only66, F2, F3, With66, RexW, RexR}
 use Rattle.x86_operands.specs.Columns.{none}
 use Rattle.x86_operands.specs.Words.{mem, reg, both, mem_at, reg_at, both_at, reg_from, reg_rm, rm_at, strict_rm, by_reg, by_rm, cl, rax, eax, ecx, st0, ecx_in_rm, edx_in_rm, ecx_third, size, size_v, undecided, read, changing, refusal, otherwise}
 
@@ -145,7 +145,7 @@ group_rows form.ModRM_0x0f73 =
 group_rows form.ModRM_0x0fae =
     read (reg_at 6) F2 (Name UMWAIT) (One RdInReg) (size 0) ∷
     refusal mem F2 BadOperand AtModRM ∷
-    refusal (both_at 4) F3With66 BadOpcode AtModRM ∷
+    refusal (both_at 4) With66 BadOpcode AtModRM ∷
     read (both_at 4) F3 (Name PTWRITE) (One (E Dq)) (Of Dq, Bytes 0) ∷
     read (mem_at 6) F3 (Name CLRSSBSY) (One M) (size 8) ∷
     refusal mem F3 BadOperand AtModRM ∷

@@ -16,9 +16,7 @@ use x86_operands::letters::Letters::{Four, One, Three, Two, Zero};
 use x86_operands::letters::RowSize::{Bytes, Of};
 use x86_operands::plans::{ModrmUse, RegisterSlot};
 use x86_operands::rows::Names::{ByReg, ByRm, BySuffix, Name, Own};
-use x86_operands::rows::When::{
-    Always, F2, F3, F3With66, NoPrefix, NoRepeat, Only66, RexR, RexW, With66,
-};
+use x86_operands::rows::When::{Always, F2, F3, NoPrefix, NoRepeat, Only66, RexR, RexW, With66};
 use x86_operands::rows::{FormRow, Reg, Rm};
 use x86_operands::{Last, encoded, other, read, refusal};
 use x86_regs::RegisterClass;
@@ -208,7 +206,7 @@ const ROWS_0F73: &[FormRow; 6] = &[
 const ROWS_0FAE: &[FormRow; 17] = &[
     read!(Register Reg::Is(6), Rm::Any; F2; Name(655); One(RdInReg); Bytes(0); Bytes(0)), // UMWAIT
     refusal!(Memory Reg::Any, Rm::Any; F2; Zero; BadOperand AtModRM),
-    refusal!(Either Reg::Is(4), Rm::Any; F3With66; Zero; BadOpcode AtModRM),
+    refusal!(Either Reg::Is(4), Rm::Any; With66; Zero; BadOpcode AtModRM),
     read!(Either Reg::Is(4), Rm::Any; F3; Name(610); One(E(Dq)); Of(Dq); Bytes(0)), // PTWRITE
     read!(Memory Reg::Is(6), Rm::Any; F3; Name(434); One(M); Bytes(8); Bytes(8)), // CLRSSBSY
     refusal!(Memory Reg::Any, Rm::Any; F3; Zero; BadOperand AtModRM),

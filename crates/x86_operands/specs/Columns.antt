@@ -49,7 +49,6 @@ is_prefixed when.F2 own p = repnz p
 is_prefixed when.F3 own p = rep p
 is_prefixed when.With66 own p = operand_size p
 is_prefixed when.With67 own p = address_size p
-is_prefixed when.F3With66 own p = rep p && operand_size p
 is_prefixed when.RexW own p = has_w p
 is_prefixed when.RexR own p = has_r p
 is_prefixed when.Register0 own p = (carried own.form == 0) && not (has_b p)

@@ -1,5 +1,5 @@
 -- What a line of the operand encodings means. In a form that has sizes for named opcodes alone, any other opcode has size 0.
-use Rattle.std.specs.Prelude.{ℕ, Bool, true, false, ◌==◌, if◌then◌else◌, not, pos, ◌&&◌, ◌||◌, [], ◌∷◌}
+use Rattle.std.specs.Prelude.{ℕ, Bool, true, false, ◌==◌, if◌then◌else◌, not, pos, ◌&&◌, ◌||◌, List, [], ◌∷◌}
 use Rattle.x86_regs.specs.declared.RegisterClass.TheVariants as class
 use Rattle.x86_opcodes.specs.Kinds.{is_among}
 use Rattle.x86_opcodes.specs.Names.{CALL, CMPSD, CMPSS, ROUNDSS, ROUNDSD, MOVDDUP, MOVNTSS, MOVNTPS, MOVNTPD, MOVNTDQ, PEXTRB, PEXTRW, EXTRACTPS, PINSRB, INSERTPS, PMOVSXBQ, PMOVZXBQ, PMOVSXBD, PMOVZXBD, PMOVSXWQ, PMOVZXWQ, UCOMISS, COMISS, CVTSS2SD, MOVLPD, MOVHPD, PUNPCKLBW, PUNPCKLWD, PUNPCKLDQ, RETURN, RETF, PUSHF, POPF, LEAVE, XLAT}
@@ -19,19 +19,22 @@ immediate_by quad class.W = encoding.I16
 immediate_by quad class.Q = quad
 immediate_by quad c = encoding.I32
 
--- a size that the operation alone decides, and 0 for the others
+-- the bytes of the first operations that have this one among them, or those of all others
+abbrev pub first_size : List (List ℕ × ℕ) → ℕ → ℕ → ℕ
+first_size [] other o = other
+first_size ((names, bytes) ∷ rest) other o = if is_among names o then bytes else first_size rest other o
+
+-- the sizes that the operation alone decides
 abbrev pub named_size : Size → ℕ → ℕ
-named_size size.Bare o = if is_among (RETURN ∷ PUSHF ∷ POPF ∷ LEAVE ∷ []) o then 8 else (if o == RETF then 10 else (if o == XLAT then 1 else 0))
-named_size size.Return o = if o == RETURN then 8 else (if o == RETF then 10 else 0)
-named_size size.Duplicate o = if o == MOVDDUP then 8 else 16
-named_size size.Stream o = if o == MOVNTSS then 4 else (if is_among (MOVNTPS ∷ MOVNTPD ∷ MOVNTDQ ∷ []) o then 16 else 8)
-named_size size.Scalar o = if is_among (CMPSS ∷ ROUNDSS ∷ []) o then 4 else (if is_among (CMPSD ∷ ROUNDSD ∷ []) o then 8 else 16)
-named_size size.Extract o = if o == PEXTRB then 1 else (if o == PEXTRW then 2 else (if o == EXTRACTPS then 4 else 0))
-named_size size.Insert o = if o == PINSRB then 1 else (if o == INSERTPS then 4 else 0)
-named_size size.Unpack o = if is_among (PUNPCKLBW ∷ PUNPCKLWD ∷ PUNPCKLDQ ∷ []) o then 4 else 8
-named_size size.Extend o =
-    if is_among (PMOVSXBQ ∷ PMOVZXBQ ∷ []) o then 2
-    else (if is_among (PMOVSXBD ∷ PMOVZXBD ∷ PMOVSXWQ ∷ PMOVZXWQ ∷ UCOMISS ∷ COMISS ∷ CVTSS2SD ∷ []) o then 4 else 8)
+named_size size.Bare o = first_size ((RETURN ∷ PUSHF ∷ POPF ∷ LEAVE ∷ [], 8) ∷ (RETF ∷ [], 10) ∷ (XLAT ∷ [], 1) ∷ []) 0 o
+named_size size.Return o = first_size ((RETURN ∷ [], 8) ∷ (RETF ∷ [], 10) ∷ []) 0 o
+named_size size.Duplicate o = first_size ((MOVDDUP ∷ [], 8) ∷ []) 16 o
+named_size size.Stream o = first_size ((MOVNTSS ∷ [], 4) ∷ (MOVNTPS ∷ MOVNTPD ∷ MOVNTDQ ∷ [], 16) ∷ []) 8 o
+named_size size.Scalar o = first_size ((CMPSS ∷ ROUNDSS ∷ [], 4) ∷ (CMPSD ∷ ROUNDSD ∷ [], 8) ∷ []) 16 o
+named_size size.Extract o = first_size ((PEXTRB ∷ [], 1) ∷ (PEXTRW ∷ [], 2) ∷ (EXTRACTPS ∷ [], 4) ∷ []) 0 o
+named_size size.Insert o = first_size ((PINSRB ∷ [], 1) ∷ (INSERTPS ∷ [], 4) ∷ []) 0 o
+named_size size.Unpack o = first_size ((PUNPCKLBW ∷ PUNPCKLWD ∷ PUNPCKLDQ ∷ [], 4) ∷ []) 8 o
+named_size size.Extend o = first_size ((PMOVSXBQ ∷ PMOVZXBQ ∷ [], 2) ∷ (PMOVSXBD ∷ PMOVZXBD ∷ PMOVSXWQ ∷ PMOVZXWQ ∷ UCOMISS ∷ COMISS ∷ CVTSS2SD ∷ [], 4) ∷ []) 8 o
 named_size s o = 0
 
 -- the bytes of a size

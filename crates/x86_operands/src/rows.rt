@@ -1,7 +1,7 @@
 //! Rows of forms: where each is, and what it has there. The first row that holds counts.
-ghost use Rattle.std.specs.Prelude.{◌≡◌};
+ghost use Rattle.std.specs.Prelude.{◌≡◌, ◌&&◌};
 ghost use Rattle.x86_forms.specs.Words.{IsForm};
-ghost use Rattle.x86_operands.specs.Columns.{choose, is_there, is_placed, is_prefixed, is_reg, is_rm, is_named, named, opcode_of, plan_of_row};
+ghost use Rattle.x86_operands.specs.Columns.{choose, is_placed, is_prefixed, is_reg, is_rm, is_named, named, opcode_of, plan_of_row};
 
 use crate::letters::{Letters, RowSize};
 use crate::plans::{Fault, Moment, Plan, PrefixChange, Verdict};
@@ -54,8 +54,6 @@ pub enum When {
     With66,
     /// 67, whatever else there is.
     With67,
-    /// F3 and 66.
-    F3With66,
     /// W of a live REX.
     RexW,
     /// R of a live REX.
@@ -114,37 +112,32 @@ pub struct FormRow {
     pub content: Content,
 }
 
-impl FormRow {
-    fn is_placed(&self, modrm: ModRM) -> bool
-        ensures { result ≡ is_placed self.now.at.place modrm }
+impl Where {
+    /// Whether a row is at a ModRM byte.
+    fn has(&self, strict: bool, modrm: ModRM) -> bool
+        ensures { result ≡ is_placed self.now.place modrm && (is_reg self.now.reg modrm
+            && is_rm self.now.rm strict modrm) }
     {
-        match self.at.place {
+        let has_form = match self.place {
             Place::Memory => modrm.is_memory(),
             Place::Register => !modrm.is_memory(),
             Place::Bare | Place::Either => true,
-        }
-    }
-
-    fn has_reg(&self, modrm: ModRM) -> bool
-        ensures { result ≡ is_reg self.now.at.reg modrm }
-    {
-        match self.at.reg {
+        };
+        let has_reg = match self.reg {
             Reg::Any => true,
             Reg::Is(reg) => modrm.reg_field() == reg,
             Reg::From(first, last) => (first..=last).contains(&modrm.reg_field()),
-        }
-    }
-
-    fn has_rm(&self, strict: bool, modrm: ModRM) -> bool
-        ensures { result ≡ is_rm self.now.at.rm strict modrm }
-    {
-        match self.at.rm {
+        };
+        let has_rm = match self.rm {
             Rm::Any => true,
             Rm::Is(rm) => modrm.rm_field() == rm,
             Rm::ZeroIfStrict => !strict || modrm.rm_field() == 0,
-        }
+        };
+        has_form && has_reg && has_rm
     }
+}
 
+impl FormRow {
     fn has_prefixes(&self, own: &TableRow, prefixes: &Prefixes) -> bool
         ensures { result ≡ is_prefixed self.now.when own.now prefixes.now }
     {
@@ -158,7 +151,6 @@ impl FormRow {
             When::F3 => matches!(mandatory, Mandatory::F3),
             When::With66 => prefixes.operand_size(),
             When::With67 => prefixes.address_size(),
-            When::F3With66 => prefixes.rep() && prefixes.operand_size(),
             When::RexW => prefixes.has_w(),
             When::RexR => match prefixes.rex() {
                 Some(rex) => rex.r(),
@@ -167,33 +159,6 @@ impl FormRow {
             When::Register0 => own.form.carried() == 0 && !prefixes.has_b(),
             When::Opcode(number) => number == own.opcode.number(),
         }
-    }
-
-    fn has_name(&self, modrm: ModRM) -> bool
-        ensures { result ≡ is_named self.now.content modrm }
-    {
-        match &self.content {
-            Content::Reads {
-                names: Names::ByReg(names),
-                ..
-            } => names[modrm.reg_field() as usize] != 0,
-            Content::Reads {
-                names: Names::ByRm(names),
-                ..
-            } => names[modrm.rm_field() as usize] != 0,
-            _ => true,
-        }
-    }
-
-    /// Whether the row is there.
-    fn is_there(&self, own: &TableRow, strict: bool, prefixes: &Prefixes, modrm: ModRM) -> bool
-        ensures { result ≡ is_there self.now own.now strict prefixes.now modrm }
-    {
-        self.is_placed(modrm)
-            && self.has_reg(modrm)
-            && self.has_rm(strict, modrm)
-            && self.has_prefixes(own, prefixes)
-            && self.has_name(modrm)
     }
 }
 
@@ -208,7 +173,10 @@ pub fn choose(
     ensures { result ≡ choose rows.now own.now strict prefixes.now modrm }
 {
     for row in rows {
-        if row.is_there(own, strict, prefixes, modrm) {
+        if row.at.has(strict, modrm)
+            && row.has_prefixes(own, prefixes)
+            && row.content.has_name(modrm)
+        {
             return row.content;
         }
     }
@@ -242,6 +210,23 @@ impl Names {
 }
 
 impl Content {
+    /// Whether the row has a name at a ModRM byte, where it has eight.
+    fn has_name(&self, modrm: ModRM) -> bool
+        ensures { result ≡ is_named self.now modrm }
+    {
+        match self {
+            Content::Reads {
+                names: Names::ByReg(names),
+                ..
+            } => names[modrm.reg_field() as usize] != 0,
+            Content::Reads {
+                names: Names::ByRm(names),
+                ..
+            } => names[modrm.rm_field() as usize] != 0,
+            _ => true,
+        }
+    }
+
     /// The plan at a ModRM byte; `own` is the row in the opcode map.
     pub fn plan(&self, own: &TableRow, prefixes: &Prefixes, modrm: ModRM) -> Plan
         requires { IsForm own.now.form }

@@ -32,6 +32,10 @@ mod refusal_table;
 #[cfg(test)]
 mod refusal_tests;
 #[cfg(test)]
+mod row_table;
+#[cfg(test)]
+mod slot_tests;
+#[cfg(test)]
 mod sweep_tests;
 #[cfg(test)]
 mod table_tests;

@@ -1,14 +1,14 @@
 //! Lines of instructions, worked by hand from the rows.
 use crate::decoding::decoded;
 use crate::plain_tests::agree_on;
-use crate::{group_table, mixed_table, plain_table, x87_table};
+use crate::{group_table, mixed_table, plain_table, row_table, x87_table};
 use arrayvec::ArrayVec;
 use x86_arch::{ChunkReader, Reader};
 use x86_decode::{DecodeError, InstDecoder, Instruction};
 use x86_text::line_of;
 
 /// The tables of worked lines, `HEX => LINE`.
-fn tables() -> [&'static str; 13] {
+fn tables() -> [&'static str; 18] {
     [
         plain_table::PART_1,
         plain_table::PART_2,
@@ -23,6 +23,11 @@ fn tables() -> [&'static str; 13] {
         x87_table::PART_2,
         mixed_table::PART_1,
         mixed_table::PART_2,
+        row_table::PART_1,
+        row_table::PART_2,
+        row_table::PART_3,
+        row_table::PART_4,
+        row_table::PART_5,
     ]
 }
 
