@@ -17,9 +17,44 @@ fn conditions(rt: HostRuntime) {
     assert!(rt; tests(&[0x89, 0xc0], None));
 }
 
+/// The conditions in the order of their encodings (Intel SDM volume 1, table B-1).
+const CONDITIONS: [ConditionCode; 16] = [
+    ConditionCode::O,
+    ConditionCode::NO,
+    ConditionCode::B,
+    ConditionCode::AE,
+    ConditionCode::Z,
+    ConditionCode::NZ,
+    ConditionCode::BE,
+    ConditionCode::A,
+    ConditionCode::S,
+    ConditionCode::NS,
+    ConditionCode::P,
+    ConditionCode::NP,
+    ConditionCode::L,
+    ConditionCode::GE,
+    ConditionCode::LE,
+    ConditionCode::G,
+];
+
+/// Whether the operation of an encoding tests a condition, and is of the one kind of operations: jumps, moves, settings.
+fn is_of_kind(bytes: &[u8], condition: ConditionCode, kind: [bool; 3]) -> bool {
+    let opcode = decoded(bytes).opcode();
+    opcode.condition() == Some(condition)
+        && [opcode.is_jcc(), opcode.is_cmovcc(), opcode.is_setcc()] == kind
+}
+
 #[test]
 fn kinds_of_conditional_operations(rt: HostRuntime) {
-    assert!(rt; Opcode::JNB.is_jcc() && !Opcode::JNB.is_setcc());
+    // The low half of the opcode byte is the encoding of the condition.
+    for (at, condition) in CONDITIONS.into_iter().enumerate() {
+        let low = at as u8;
+        let near = [0x0f, 0x80 + low, 0, 0, 0, 0];
+        assert!(rt; is_of_kind(&[0x70 + low, 0], condition, [true, false, false]));
+        assert!(rt; is_of_kind(&near, condition, [true, false, false]));
+        assert!(rt; is_of_kind(&[0x0f, 0x40 + low, 0xc0], condition, [false, true, false]));
+        assert!(rt; is_of_kind(&[0x0f, 0x90 + low, 0xc0], condition, [false, false, true]));
+    }
 }
 
 /// Whether an instruction is read, and its hints are these.

@@ -1,4 +1,4 @@
-//! Encodings of all kinds, worked by hand from the rows: prefixes, lengths, immediates, addresses, groups and maps.
+//! Encodings of all kinds, worked by hand from the rows: prefixes, lengths, immediates, addresses, registers and LOCK.
 //! Each has the line that lists it.
 
 pub const PART_1: &str = "00 d8 => 0 2 ADD al, bl m1
@@ -9,6 +9,14 @@ pub const PART_1: &str = "00 d8 => 0 2 ADD al, bl m1
 41 48 90 => 0 3 NOP m0
 48 41 90 => 0 3 XCHG eax, r8d m0
 f0 01 18 => 0 3 ADD [rax], ebx m4
+f0 09 18 => 0 3 OR [rax], ebx m4
+f0 11 18 => 0 3 ADC [rax], ebx m4
+f0 19 18 => 0 3 SBB [rax], ebx m4
+f0 21 18 => 0 3 AND [rax], ebx m4
+f0 29 18 => 0 3 SUB [rax], ebx m4
+f0 0f ab 18 => 0 4 BTS [rax], ebx m4
+f0 0f b3 18 => 0 4 BTR [rax], ebx m4
+f0 ff 00 => 0 3 INC [rax] m4
 48 05 ff ff ff ff => 0 6 ADD rax, i64:-1 m0
 66 05 34 12 => 0 4 ADD ax, i16:4660 m0
 b8 ff ff ff ff => 0 5 MOV eax, i32:-1 m0
@@ -35,7 +43,21 @@ ff e0 => 0 2 JMP rax m4
 0f 05 => 0 2 SYSCALL m0
 0f c8 => 0 2 BSWAP eax m0";
 
-pub const PART_2: &str = "0f 10 00 => 0 3 MOVUPS xmm0, [rax] m16
+pub const PART_2: &str = "66 89 e6 => 0 3 MOV si, sp m2
+66 45 89 d3 => 0 4 MOV r11w, r10w m2
+66 45 89 e5 => 0 4 MOV r13w, r12w m2
+66 45 89 fe => 0 4 MOV r14w, r15w m2
+45 89 d3 => 0 3 MOV r11d, r10d m4
+45 89 e5 => 0 3 MOV r13d, r12d m4
+45 89 fe => 0 3 MOV r14d, r15d m4
+45 88 c2 => 0 3 MOV r10b, r8b m1
+45 88 dd => 0 3 MOV r13b, r11b m1
+45 0f 28 d3 => 0 4 MOVAPS xmm10, xmm11 m4
+45 0f 28 e5 => 0 4 MOVAPS xmm12, xmm13 m4
+45 0f 28 f7 => 0 4 MOVAPS xmm14, xmm15 m4
+8c c0 => 0 2 MOV eax, es m4
+8c c8 => 0 2 MOV eax, cs m4
+0f 10 00 => 0 3 MOVUPS xmm0, [rax] m16
 f2 0f 10 c1 => 0 4 MOVSD xmm0, xmm1 m4
 66 f2 0f 12 c1 => 0 5 MOVDDUP xmm0, xmm1 m2
 66 0f 6e c0 => 0 4 MOVD xmm0, eax m2
