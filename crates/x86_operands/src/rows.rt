@@ -123,6 +123,9 @@ impl Where {
             Place::Register => !modrm.is_memory(),
             Place::Bare | Place::Either => true,
         };
+        if !has_form {
+            return false;
+        }
         let has_reg = match self.reg {
             Reg::Any => true,
             Reg::Is(reg) => modrm.reg_field() == reg,
@@ -133,7 +136,7 @@ impl Where {
             Rm::Is(rm) => modrm.rm_field() == rm,
             Rm::ZeroIfStrict => !strict || modrm.rm_field() == 0,
         };
-        has_form && has_reg && has_rm
+        has_reg && has_rm
     }
 }
 
