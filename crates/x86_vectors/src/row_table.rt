@@ -1,6 +1,7 @@
-//! A row of the opcode maps a line: those that no other table has. The names, operands, lengths and sizes are those that
-//! GNU objdump 2.40 prints, in the words of a line. Where it prints others, the manual and the rows count: XCHG names the
-//! accumulator first, 0F 1A and 0F 1B are NOP without MPX, SYSEXIT has no suffix, and xmm0 isn't named where it is implied.
+//! Lines of the rows of the opcode maps, one for each row that no other table has. The names, operands, lengths and memory
+//! sizes are those that GNU objdump 2.40 prints, in the words of a line; where there is no memory the size is the row's.
+//! Where objdump prints something else, the manual and the rows count: XCHG names the accumulator first, 0F 1A and 0F 1B
+//! are NOP without MPX, SYSEXIT has no suffix, and xmm0 isn't named where it is implied.
 
 pub const PART_1: &str = "08 19 => 0 2 OR [rcx], bl m1
 09 32 => 0 2 OR [rdx], esi m4
