@@ -4,9 +4,10 @@ x86_vectors reaches.
 
 The proof holds rows against what their columns mean (specs/Columns.antt of x86_operands), and the code has the same
 columns. What they mean is tested by lines that come from the manual or from another decoder. A row of an opcode map,
-and one of a form that is read, needs a line that is accepted there, and a row that is refused one with its error. The script finds the row itself, from the prefixes and the opcode
-byte of a line (Intel SDM volume 2, section 2.1). The lines are of the default decoder. What the strict choice refuses
-besides is a law (`x86_groups::laws::choices_differ_on_fences`). The status is 0 where no line is missing."""
+and one of a form that is read, needs a line that is accepted there, and a row that is refused one with its error. The
+script finds the row itself, from the prefixes and the opcode byte of a line (Intel SDM volume 2, section 2.1). The
+lines are of the default decoder. What the strict choice refuses besides is a law
+(`x86_groups::laws::choices_differ_on_fences`). The status is 0 where no line is missing."""
 
 import re
 import sys
