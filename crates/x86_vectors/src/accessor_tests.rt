@@ -37,7 +37,7 @@ const CONDITIONS: [ConditionCode; 16] = [
     ConditionCode::G,
 ];
 
-/// Whether the operation of an encoding tests a condition, and is of the one kind of operations: jumps, moves, settings.
+/// Whether the operation of an encoding tests this condition, and is of these kinds: a jump, a move, a setting.
 fn is_of_kind(bytes: &[u8], condition: ConditionCode, kind: [bool; 3]) -> bool {
     let opcode = decoded(bytes).opcode();
     opcode.condition() == Some(condition)

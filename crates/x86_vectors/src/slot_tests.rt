@@ -1,5 +1,5 @@
-//! Where operands come from, worked out from the manual's operand encodings (Intel SDM volume 2, chapter 3, the column
-//! Op/En). No line of a listing shows it.
+//! Where operands come from, worked by hand: reg, rm and immediates from the manual's operand encodings (Intel SDM volume
+//! 2, section 3.1.1.4), the rest from what each slot means (`Slot`). No line of a listing shows it.
 use crate::decoding::decoded;
 use x86_decode::Slot;
 
