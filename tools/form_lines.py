@@ -46,8 +46,8 @@ def operand(words):
 
 def size(text):
     """The word of a size."""
-    of = re.fullmatch(r"Of\((V|Dq)\)|Named\(Size::(\w+)\)", text)
-    return of[1] or of[2] if of else word(BYTES, text)
+    of = re.fullmatch(r"Of\(Size::(\w+)\)", text)
+    return of[1] if of else word(BYTES, text)
 
 
 def after_opcode(rows):
@@ -107,7 +107,7 @@ def lines(forms):
 
 
 def reg_line(rows, reg, numbers):
-    """The line of a reg with its name, if reg alone chooses its row, or if 66 chooses between the two sizes of PUSH."""
+    """The line of a reg with its name, if reg alone chooses its row."""
     here = [each for each in rows if each.is_at(reg) and each.is_named(reg, 0)]
     first = here[0]
     if first.error or first.place != "Either":
@@ -115,8 +115,6 @@ def reg_line(rows, reg, numbers):
     name = first.names[1 + reg] if first.names[0] == "by_reg" else first.names[1]
     if first.when == "Always":
         return f"line!({numbers[name]} {encoding('EitherForm', first.operands, map(size, first.sizes))})", name
-    if first.when == "With66" and here[1].when == "Always" and [first.sizes, here[1].sizes] == [("Bytes(2)",) * 2, ("Bytes(8)",) * 2]:
-        return f"line!({numbers[name]} {encoding('EitherForm', first.operands, ['Push'] * 2)})", name
     return "rows_alone!()", ""
 
 

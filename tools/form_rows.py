@@ -47,7 +47,7 @@ WHEN = {
     "RexR": (("R",), ()),
     "Register0": (("register 0",), ()),
 }
-KINDS = ("read", "changing", "refusing")
+KINDS = ("read", "changing", "suffixed", "refusing")
 # the words for a form whose rows are one that is read, and one that is refused after a byte where there is another
 WHOLE = {
     "without_modrm": ("bare", None),
@@ -70,8 +70,8 @@ class Row:
     rm: str
     when: object  # a word, or Opcode with a name
     operands: object
-    names: object = None  # of a row that is read, as are the two sizes
-    sizes: tuple = None
+    names: object = None  # of a row that is read, unless a last byte names its operation
+    sizes: tuple = None  # of a row that isn't refused
     change: str = None  # of the answer's prefixes
     error: str = None  # of a row that is refused: the fault and its moment
 
@@ -126,18 +126,20 @@ def where(words):
 def size(words):
     """A size as the table has it."""
     word, *of = words if isinstance(words, list) else words.split()
-    return f"{word}({'Size::' if word == 'Named' else ''}{of[0]})" if of else word
+    if not of:
+        return f"Of(Size::{word.removeprefix('of_').capitalize()})"
+    return {"Bytes": f"Bytes({of[0]})", "Of": f"Of(Size::{of[0]})"}[word]
 
 
 def sizes(words):
     """The memory size in the memory form, and in the register form."""
     if isinstance(words, str):
-        return {"size_v": ("Of(V)",) * 2, "size_dq": ("Of(Dq)",) * 2, "undecided": (f"Bytes({UNDECIDED})",) * 2}[words]
+        return (f"Bytes({UNDECIDED})" if words == "undecided" else size(words.replace("size_", "of_")),) * 2
     word, *of = words
-    if word in ("size", "by_name"):
-        return (size([{"size": "Bytes", "by_name": "Named"}[word], *of]),) * 2
+    if word in ("size", "size_of"):
+        return (size([{"size": "Bytes", "size_of": "Of"}[word], *of]),) * 2
     if word == "or_v":
-        return size(of[0]), "Of(V)"
+        return size(of[0]), size("of_v")
     memory, register = " ".join(words).split(", ")
     return size(memory), size(register)
 
@@ -156,7 +158,7 @@ def row(text, words):
     if kind == "refusing":
         operands, fault, moment = rest
         return Row(text, *where(at), when, operands, error=f"{fault} {moment}")
-    names, operands, sized = rest
+    names, operands, sized = [None, *rest] if kind == "suffixed" else rest
     return Row(text, *where(at), when, operands, names, sizes(sized), change)
 
 
@@ -277,6 +279,8 @@ def entry(each, numbers):
     operands = operands if isinstance(operands, str) else f"{operands[0]}({', '.join(map(letter, operands[1:]))})"
     if each.error:
         return f"refusal!({at}; {operands}; {each.error})"
+    if each.names is None:
+        return f"suffixed!({at}; {operands}; {'; '.join(each.sizes)})"
     change = f"; {each.change}" if each.change else ""
     return f"read!({at}; {names(each.names, numbers)}; {operands}; {'; '.join(each.sizes)}{change})"
 

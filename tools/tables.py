@@ -275,7 +275,7 @@ def rows_rt(of, function, others, between=()):
 def group_tables_rt():
     others = {
         "crate::by_reg": ["RegLine", "line", "rows_alone"],
-        "x86_operands": ["encoded", "other", "read", "refusal"],
+        "x86_operands": ["encoded", "other", "read", "refusal", "suffixed"],
         "x86_operands::AfterOpcode": ["ByPlan"],
         "x86_operands::plans": ["ModrmUse"],
     }

@@ -2,17 +2,16 @@
 use Rattle.std.proofs.Common.{◌≡◌, ℕ, zero, suc, ◌==◌, ◌⊎◌, inl, inr, Bool, true, false, not, ◌&&◌, ◌||◌, [], ◌∷◌, refl, sym, ap, ◌∙◌, arith, true≢false}
 use Rattle.std.specs.List.{list_all}
 use Rattle.std.proofs.lemmas.Bool.{cases_Bool, ne_eqb}
-use Rattle.x86_groups.specs.Vocabulary.{Prefixes, TableRow, Form, ModrmUse, BadOperand, AtModRM, reg_field, rm_field, Rm, Refuses, FormRow}
+use Rattle.x86_groups.specs.Vocabulary.{Prefixes, TableRow, Form, ModrmUse, reg_field, rm_field, Rm, FormRow}
 use Rattle.x86_forms.specs.Groups.{is_group}
 use Rattle.x86_forms.specs.declared.Form.TheVariants as form
 use Rattle.x86_opcodes.specs.Names.{LFENCE, MFENCE, SFENCE}
 use Rattle.x86_operands.specs.Asks.{ask_of, plan_ask, used_modrm}
 use Rattle.x86_operands.specs.declared.rows.Rm.TheVariants as rms
-use Rattle.x86_operands.specs.declared.letters.Letters.TheVariants as letters
 use Rattle.x86_operands.specs.Columns.{choose, is_named, is_placed, is_prefixed, is_reg, is_rm, is_there, name_at, plan_of_row}
 use Rattle.x86_groups.specs.Groups.{NamesFence, lfence, mfence, sfence, IsFenceWithRm, group_modrm, group_plan, group_record, operandless, bad_operand, record_of}
 use Rattle.x86_groups.specs.Rows.{group_rows}
-use Rattle.x86_operands.proofs.ContentLemmas.{chosen_alike}
+use Rattle.x86_operands.proofs.ColumnLemmas.{chosen_alike}
 
 -- ---- the rows of 0F AE
 
@@ -40,7 +39,7 @@ module _ (own : TableRow) (p : Prefixes) (m : ℕ) where
   rm_same r a b rest h = refl
 
   row_same : (row : FormRow) → same_row row ≡ true → is_there row own true p m ≡ is_there row own false p m
-  row_same row h = rm_same row.at.rm (is_placed row.at.place m) (is_reg row.at.reg m) (is_prefixed row.when own p && is_named row.content m) h
+  row_same row h = rm_same row.at.rm (is_placed row.at.place m) (is_reg row.at.reg m) (is_prefixed row.when own p && is_named row.names m) h
 
   fence_of : list_all same_row (group_rows form.ModRM_0x0fae) ≡ false → IsFenceWithRm form.ModRM_0x0fae p m
   unfolding group_rows
@@ -61,18 +60,18 @@ same_or_fence f own p m = inl refl
 pub same_elsewhere : (row : TableRow) (p : Prefixes) (m : ℕ) → (group_plan row p m true ≡ group_plan row p m false) ⊎ IsFenceWithRm row.form p m
 unfolding group_plan
 same_elsewhere row p m = elim (same_or_fence row.form row p m) [
-  | inl e ↦ inl (ap (λ content. plan_of_row content row p m) e)
+  | inl e ↦ inl (ap (λ chosen. plan_of_row chosen row p m) e)
   | inr h ↦ inr h
 ]
 
 module _ (row : TableRow) (p : Prefixes) (m : ℕ) (h : IsFenceWithRm row.form p m) where
   by_default : (o : ℕ) → NamesFence m o → plan_of_row (choose (group_rows form.ModRM_0x0fae) row false p m) row p m ≡ operandless o
   unfolding group_rows
-  by_default o (lfence e) = rw (h.no_f2, h.no_f3, h.no_66, h.register, e) (rw (h.register, e) refl)
-  by_default o (mfence e) = rw (h.no_f2, h.no_f3, h.no_66, h.register, e) (rw (h.register, e) refl)
-  by_default o (sfence e) = rw (h.no_f2, h.no_f3, h.no_66, h.register, e) (rw (h.register, e) refl)
+  by_default o (lfence e) = rw (h.no_f2, h.no_f3, h.no_66, h.register, e) (rw e refl)
+  by_default o (mfence e) = rw (h.no_f2, h.no_f3, h.no_66, h.register, e) (rw e refl)
+  by_default o (sfence e) = rw (h.no_f2, h.no_f3, h.no_66, h.register, e) (rw e refl)
 
-  strictly : (o : ℕ) → NamesFence m o → choose (group_rows form.ModRM_0x0fae) row true p m ≡ Refuses letters.Zero BadOperand AtModRM
+  strictly : (o : ℕ) → NamesFence m o → plan_of_row (choose (group_rows form.ModRM_0x0fae) row true p m) row p m ≡ bad_operand
   unfolding group_rows
   strictly o (lfence e) = rw (h.no_f2, h.no_f3, h.no_66, h.register, ne_eqb (rm_field m) 0 h.other_rm, e) refl
   strictly o (mfence e) = rw (h.no_f2, h.no_f3, h.no_66, h.register, ne_eqb (rm_field m) 0 h.other_rm, e) refl
@@ -84,7 +83,7 @@ module _ (row : TableRow) (p : Prefixes) (m : ℕ) (h : IsFenceWithRm row.form p
 
   pub fence_strictly : group_plan row p m true ≡ bad_operand
   unfolding group_plan
-  fence_strictly = ap (λ f. plan_of_row (choose (group_rows f) row true p m) row p m) h.group ∙ ap (λ content. plan_of_row content row p m) (strictly h.opcode h.named)
+  fence_strictly = ap (λ f. plan_of_row (choose (group_rows f) row true p m) row p m) h.group ∙ strictly h.opcode h.named
 
 -- what a group has is the same under both choices
 pub same_ask : (usage : ModrmUse) (at : ℕ) (row : TableRow) (strict : Bool) (p : Prefixes) (m : ℕ) → plan_ask usage at (group_plan row p m strict) ≡ plan_ask usage at (group_plan row p m false)

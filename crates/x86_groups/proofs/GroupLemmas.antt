@@ -11,7 +11,7 @@ use Rattle.x86_operands.specs.Forms.{modrm_use}
 use Rattle.x86_operands.specs.Rows.{form_rows}
 use Rattle.x86_operands.specs.Asks.{immediates_width}
 use Rattle.x86_operands.specs.PlanSteps.{record_step}
-use Rattle.x86_operands.proofs.ContentLemmas.{passes, without_gap, at_most_64, at_most_8, keeps_reg, row_fits, rows_pass}
+use Rattle.x86_operands.proofs.ColumnLemmas.{passes, without_gap, at_most_64, at_most_8, keeps_reg, row_fits, rows_pass}
 use Rattle.x86_operands.proofs.RowLemmas.{HasGap, row_left_out}
 use Rattle.x86_operands.specs.Columns.{choose, plan_of_row}
 use Rattle.x86_groups.specs.Groups.{group_fault, group_plan, group_record}

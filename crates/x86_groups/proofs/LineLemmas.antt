@@ -44,19 +44,16 @@ below_8 P a b c d e f g h (suc (suc (suc (suc (suc (suc zero)))))) low = g
 below_8 P a b c d e f g h (suc (suc (suc (suc (suc (suc (suc zero))))))) low = h
 below_8 P a b c d e f g h (suc (suc (suc (suc (suc (suc (suc (suc k)))))))) low = absurd (omega (arith, low))
 
--- PUSH has two rows, between which 66 chooses
-push_by : (word memory : Bool) (d : RegLine) (m n : ℕ) (p : Prefixes) → reg_field m ≡ 6 → p.operand_size ≡ word → is_memory m ≡ memory → plan_of (line_at 14 6 d).encoding n (named (line_at 14 6 d).number) p m ≡ reg_plan group.FF p m
-unfolding group_rows
-push_by true true d m n p r w e = rw (r, w, e) (rw e refl)
-push_by true false d m n p r w e = rw (r, w, e) (rw e refl)
-push_by false true d m n p r w e = rw (r, w, e) (rw e refl)
-push_by false false d m n p r w e = rw (r, w, e) (rw e refl)
-
--- at JMP the rows of CALLF are looked at first, which are there in the memory form alone
+-- at JMP and at PUSH the far rows are looked at first, which are there in the memory form alone
 jump_by : (memory : Bool) (d : RegLine) (m n : ℕ) (p : Prefixes) → reg_field m ≡ 4 → is_memory m ≡ memory → plan_of (line_at 14 4 d).encoding n (named (line_at 14 4 d).number) p m ≡ reg_plan group.FF p m
 unfolding group_rows
-jump_by true d m n p r e = rw (r, e) (rw e refl)
-jump_by false d m n p r e = rw (r, e) (rw e refl)
+jump_by true d m n p r e = rw (r, e) refl
+jump_by false d m n p r e = rw (r, e) refl
+
+push_by : (memory : Bool) (d : RegLine) (m n : ℕ) (p : Prefixes) → reg_field m ≡ 6 → is_memory m ≡ memory → plan_of (line_at 14 6 d).encoding n (named (line_at 14 6 d).number) p m ≡ reg_plan group.FF p m
+unfolding group_rows
+push_by true d m n p r e = rw (r, e) refl
+push_by false d m n p r e = rw (r, e) refl
 
 -- a line that leaves all to the rows
 by_rows : (g : RegGroup) (d : RegLine) (k : ℕ) → is_described (line_at (place_of g) k d).encoding.after_opcode ≡ false → Cell g d k
@@ -67,7 +64,7 @@ unfolding group_rows
 cells group.C6 d = below_8 (Cell group.C6 d) (λ m r is n p. rw (sized, r) refl) (by_rows group.C6 d 1 refl) (by_rows group.C6 d 2 refl) (by_rows group.C6 d 3 refl) (by_rows group.C6 d 4 refl) (by_rows group.C6 d 5 refl) (by_rows group.C6 d 6 refl) (by_rows group.C6 d 7 refl)
 cells group.C7 d = below_8 (Cell group.C7 d) (λ m r is n p. rw (sized, r) refl) (by_rows group.C7 d 1 refl) (by_rows group.C7 d 2 refl) (by_rows group.C7 d 3 refl) (by_rows group.C7 d 4 refl) (by_rows group.C7 d 5 refl) (by_rows group.C7 d 6 refl) (by_rows group.C7 d 7 refl)
 cells group.FE d = below_8 (Cell group.FE d) (λ m r is n p. rw (sized, r) (rw r refl)) (λ m r is n p. rw (sized, r) (rw r refl)) (by_rows group.FE d 2 refl) (by_rows group.FE d 3 refl) (by_rows group.FE d 4 refl) (by_rows group.FE d 5 refl) (by_rows group.FE d 6 refl) (by_rows group.FE d 7 refl)
-cells group.FF d = below_8 (Cell group.FF d) (λ m r is n p. rw (sized, r) (rw r refl)) (λ m r is n p. rw (sized, r) (rw r refl)) (λ m r is n p. rw (sized, r) refl) (by_rows group.FF d 3 refl) (λ m r is n p. jump_by (is_memory m) d m n p r refl) (by_rows group.FF d 5 refl) (λ m r is n p. push_by p.operand_size (is_memory m) d m n p r refl refl) (by_rows group.FF d 7 refl)
+cells group.FF d = below_8 (Cell group.FF d) (λ m r is n p. rw (sized, r) (rw r refl)) (λ m r is n p. rw (sized, r) (rw r refl)) (λ m r is n p. rw (sized, r) refl) (by_rows group.FF d 3 refl) (λ m r is n p. jump_by (is_memory m) d m n p r refl) (by_rows group.FF d 5 refl) (λ m r is n p. push_by (is_memory m) d m n p r refl) (by_rows group.FF d 7 refl)
 cells g d = below_8 (Cell g d) (λ m r is n p. rw (sized, r) (rw r refl)) (λ m r is n p. rw (sized, r) (rw r refl)) (λ m r is n p. rw (sized, r) (rw r refl)) (λ m r is n p. rw (sized, r) (rw r refl)) (λ m r is n p. rw (sized, r) (rw r refl)) (λ m r is n p. rw (sized, r) (rw r refl)) (λ m r is n p. rw (sized, r) (rw r refl)) (λ m r is n p. rw (sized, r) (rw r refl))
 
 -- each line is sound, and has a ModRM byte of either form unless it leaves all to the rows

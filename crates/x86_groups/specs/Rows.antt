@@ -6,14 +6,14 @@
 use Rattle.std.specs.Prelude.{List, [], ◌∷◌}
 use Rattle.x86_opcodes.specs.Names.{ADC, ADD, AESDEC128KL, AESDEC256KL, AESDECWIDE128KL, AESDECWIDE256KL, AESENC128KL, AESENC256KL, AESENCWIDE128KL, AESENCWIDE256KL, AND, BT, BTC, BTR, BTS, CALL, CALLF, CLAC, CLFLUSH, CLFLUSHOPT, CLGI, CLRSSBSY, CLUI, CLWB, CLZERO, CMP, CMPXCHG16B, CMPXCHG8B, DEC, DIV, ENCLS, ENCLU, ENCLV, ENCODEKEY128, ENCODEKEY256, ENDBR32, ENDBR64, EXTRQ, F2XM1, FABS, FADD, FADDP, FBLD, FBSTP, FCHS, FCMOVB, FCMOVBE, FCMOVE, FCMOVNB, FCMOVNBE, FCMOVNE, FCMOVNU, FCMOVU, FCOM, FCOMI, FCOMIP, FCOMP, FCOMPP, FCOS, FDECSTP, FDISI8087_NOP, FDIV, FDIVP, FDIVR, FDIVRP, FENI8087_NOP, FFREE, FFREEP, FIADD, FICOM, FICOMP, FIDIV, FIDIVR, FILD, FIMUL, FINCSTP, FIST, FISTP, FISTTP, FISUB, FISUBR, FLD, FLD1, FLDCW, FLDENV, FLDL2E, FLDL2T, FLDLG2, FLDLN2, FLDPI, FLDZ, FMUL, FMULP, FNCLEX, FNINIT, FNOP, FNSAVE, FNSTCW, FNSTENV, FNSTSW, FPATAN, FPREM, FPREM1, FPTAN, FRNDINT, FRSTOR, FSCALE, FSETPM287_NOP, FSIN, FSINCOS, FSQRT, FST, FSTP, FSTPNCE, FSUB, FSUBP, FSUBR, FSUBRP, FTST, FUCOM, FUCOMI, FUCOMIP, FUCOMP, FUCOMPP, FXAM, FXCH, FXRSTOR, FXSAVE, FXTRACT, FYL2X, FYL2XP1, HRESET, IDIV, IMUL, INC, INCSSP, INSERTQ, INVLPG, INVLPGA, INVLPGB, JMP, JMPF, LDMXCSR, LFENCE, LGDT, LIDT, LLDT, LMSW, LOADIWKEY, LTR, MFENCE, MONITOR, MONITORX, MOV, MOVHLPS, MOVHPS, MOVLHPS, MOVLPS, MUL, MWAIT, MWAITX, NEG, NOP, NOT, OR, PCONFIG, POP, PREFETCH0, PREFETCH1, PREFETCH2, PREFETCHNTA, PREFETCHW, PSLLD, PSLLDQ, PSLLQ, PSLLW, PSMASH, PSRAD, PSRAW, PSRLD, PSRLDQ, PSRLQ, PSRLW, PTWRITE, PUSH, PVALIDATE, RCL, RCR, RDFSBASE, RDGSBASE, RDPID, RDPKRU, RDPRU, RDRAND, RDSEED, RDTSCP, RMPADJUST, RMPUPDATE, ROL, ROR, RSTORSSP, SAL, SAR, SAVEPREVSSP, SBB, SEAMCALL, SEAMOPS, SEAMRET, SENDUIPI, SETSSBSY, SFENCE, SGDT, SHL, SHR, SIDT, SKINIT, SLDT, SMSW, STAC, STGI, STMXCSR, STR, STUI, SUB, SWAPGS, TDCALL, TEST, TESTUI, TLBSYNC, TPAUSE, UIRET, UMONITOR, UMWAIT, VERR, VERW, VMCALL, VMCLEAR, VMFUNC, VMLAUNCH, VMLOAD, VMMCALL, VMPTRLD, VMPTRST, VMRESUME, VMRUN, VMSAVE, VMXOFF, VMXON, WRFSBASE, WRGSBASE, WRPKRU, XABORT, XBEGIN, XEND, XGETBV, XOR, XRESLDTRK, XRSTOR, XRSTORS, XRSTORS64, XSAVE, XSAVEC, XSAVEC64, XSAVEOPT, XSAVES, XSAVES64, XSETBV, XSUSLDTRK, XTEST}
 use Rattle.x86_fields.specs.declared.sizes.Width.TheVariants.{B, W, D, Q, X, V, Vq, Dq}
-use Rattle.x86_groups.specs.Vocabulary.{Form, BadOpcode, BadOperand, Incomplete, AtModRM, AfterAddress, ClearsOperandSize, Own, BySuffix, Name, Bytes, Of, FormRow}
+use Rattle.x86_groups.specs.Vocabulary.{Form, BadOpcode, BadOperand, Incomplete, AtModRM, AfterAddress, ClearsOperandSize, Own, Name, Bytes, FormRow}
 use Rattle.x86_forms.specs.declared.Form.TheVariants as form
 use Rattle.x86_operands.specs.declared.encodings.Last.TheVariants.{I8, U8, Iv, SignedOne}
 use Rattle.x86_operands.specs.declared.letters.Letter.TheVariants.{E, G, U, M, Gmm, Emm, Umm, Cr, Dr, X8, Jv, StRm, RdInReg, Last}
 use Rattle.x86_operands.specs.declared.letters.Letters.TheVariants.{Zero, One, Two, Three, Four}
 use Rattle.x86_operands.specs.declared.rows.When.TheVariants.{Always, NoPrefix, NoRepeat, Only66, F2, F3, With66, RexW, RexR}
 use Rattle.x86_operands.specs.Columns.{none}
-use Rattle.x86_operands.specs.Words.{mem, reg, both, mem_at, reg_at, both_at, reg_from, reg_rm, rm_at, strict_rm, by_reg, by_rm, cl, rax, eax, ecx, st0, ecx_in_rm, edx_in_rm, ecx_third, size, size_v, undecided, read, changing, refusal, otherwise}
+use Rattle.x86_operands.specs.Words.{mem, reg, both, mem_at, reg_at, both_at, reg_from, reg_rm, rm_at, strict_rm, by_reg, by_rm, cl, rax, eax, ecx, st0, ecx_in_rm, edx_in_rm, ecx_third, of_vq, of_dq, size, size_v, size_vq, or_v, undecided, read, changing, suffixed, refusal, otherwise}
 
 -- of the groups none is left to the last line, for forms that have no rows
 unfoldable pub group_rows : Form → List FormRow
@@ -93,7 +93,7 @@ group_rows form.ModRM_0x0f0d =
     read mem Always (Name NOP) (One M) (size 64) ∷
     otherwise BadOperand AtModRM ∷ []
 -- 3DNow, whose last byte names the operation. AMD APM volume 3, appendix A.1.2
-group_rows form.ModRM_0x0f0f = read both Always BySuffix (Two Gmm Emm) (Bytes 8, Of V) ∷ []
+group_rows form.ModRM_0x0f0f = suffixed both Always (Two Gmm Emm) (or_v (Bytes 8)) ∷ []
 -- 0F 12 and 0F 16 without a prefix
 group_rows form.ModRM_0x0f12 =
     read mem Always (Name MOVLPS) (Two (G X) (E X)) (size 8) ∷
@@ -104,7 +104,7 @@ group_rows form.ModRM_0x0f16 =
 -- group 16
 group_rows form.ModRM_0x0f18 =
     read mem Always (by_reg PREFETCHNTA PREFETCH0 PREFETCH1 PREFETCH2 none none none none) (One (E V)) (size 64) ∷
-    read both Always (Name NOP) (One (E V)) (Bytes 64, Of V) ∷ []
+    read both Always (Name NOP) (One (E V)) (or_v (Bytes 64)) ∷ []
 -- MOV-Move to/from Control Registers, to/from Debug Registers. Their ModRM is a register form at
 -- every mod. There are the control registers 0, 2, 3, 4 and 8, and the debug registers below 8
 group_rows form.Rq_Cq_0 =
@@ -146,7 +146,7 @@ group_rows form.ModRM_0x0fae =
     read (reg_at 6) F2 (Name UMWAIT) (One RdInReg) (size 0) ∷
     refusal mem F2 BadOperand AtModRM ∷
     refusal (both_at 4) With66 BadOpcode AtModRM ∷
-    read (both_at 4) F3 (Name PTWRITE) (One (E Dq)) (Of Dq, Bytes 0) ∷
+    read (both_at 4) F3 (Name PTWRITE) (One (E Dq)) (of_dq, Bytes 0) ∷
     read (mem_at 6) F3 (Name CLRSSBSY) (One M) (size 8) ∷
     refusal mem F3 BadOperand AtModRM ∷
     read reg F3 (by_reg RDFSBASE RDGSBASE WRFSBASE WRGSBASE none INCSSP none none) (One (U Dq)) (size 0) ∷
@@ -162,7 +162,7 @@ group_rows form.ModRM_0x0fae =
     otherwise BadOpcode AtModRM ∷ []
 -- group 8
 group_rows form.ModRM_0x0fba =
-    read both Always (by_reg none none none none BT BTS BTR BTC) (Two (E Vq) (Last I8)) (Of Vq, Bytes 0) ∷
+    read both Always (by_reg none none none none BT BTS BTR BTC) (Two (E Vq) (Last I8)) (of_vq, Bytes 0) ∷
     otherwise BadOpcode AtModRM ∷ []
 -- group 9
 group_rows form.ModRM_0x0fc7 =
@@ -202,7 +202,7 @@ group_rows form.ModRM_0x83 = read both Always (by_reg ADD OR ADC SBB AND SUB XOR
 -- group 1A. Another reg is not built
 group_rows form.ModRM_0x8f =
     read (both_at 0) With66 (Name POP) (One (E V)) size_v ∷
-    read (both_at 0) Always (Name POP) (One (E V)) (Bytes 8, Of V) ∷
+    read (both_at 0) Always (Name POP) (One (E V)) (or_v (Bytes 8)) ∷
     otherwise Incomplete AfterAddress ∷ []
 -- group 2
 group_rows form.ModRM_0xc0 = read both Always (by_reg ROL ROR RCL RCR SHL SHR SAL SAR) (Two (E B) (Last I8)) (size 1) ∷ []
@@ -235,10 +235,9 @@ group_rows form.ModRM_0xff =
     read both Always (by_reg INC DEC none none none none none none) (One (E V)) size_v ∷
     read (both_at 2) Always (Name CALL) (One (E Q)) (size 8) ∷
     read (mem_at 3) Always (Name CALLF) (One M) (size 10) ∷
-    read (both_at 4) Always (Name JMP) (One (E Q)) (Bytes 8, Of V) ∷
+    read (both_at 4) Always (Name JMP) (One (E Q)) (or_v (Bytes 8)) ∷
     read (mem_at 5) Always (Name JMPF) (One M) (size 10) ∷
-    read (both_at 6) With66 (Name PUSH) (One (E V)) (size 2) ∷
-    read (both_at 6) Always (Name PUSH) (One (E V)) (size 8) ∷
+    read (both_at 6) Always (Name PUSH) (One (E V)) size_vq ∷
     refusal (reg_at 3) Always BadOperand AtModRM ∷
     refusal (reg_at 5) Always BadOperand AtModRM ∷
     otherwise BadOpcode AfterAddress ∷ []

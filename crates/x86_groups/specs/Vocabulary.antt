@@ -20,8 +20,6 @@ pub use Rattle.x86_operands.specs.declared.letters.Letters.{Letters}
 pub use Rattle.x86_operands.specs.declared.letters.RowSize.{RowSize}
 pub use Rattle.x86_operands.specs.declared.rows.Rm.{Rm}
 pub use Rattle.x86_operands.specs.declared.rows.Names.{Names}
-pub use Rattle.x86_operands.specs.declared.rows.Content.{Content}
 pub use Rattle.x86_operands.specs.declared.rows.FormRow.{FormRow}
-pub use Rattle.x86_operands.specs.declared.letters.RowSize.TheVariants.{Bytes, Of, Named}
-pub use Rattle.x86_operands.specs.declared.rows.Names.TheVariants.{Own, BySuffix, Name}
-pub use Rattle.x86_operands.specs.declared.rows.Content.TheVariants.{Reads, Refuses}
+pub use Rattle.x86_operands.specs.declared.letters.RowSize.TheVariants.{Bytes, Of}
+pub use Rattle.x86_operands.specs.declared.rows.Names.TheVariants.{Own, Name}

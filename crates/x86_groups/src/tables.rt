@@ -15,10 +15,10 @@ use x86_operands::letters::Letter::{Cr, Dr, E, Emm, G, Gmm, Jv, M, RdInReg, StRm
 use x86_operands::letters::Letters::{Four, One, Three, Two, Zero};
 use x86_operands::letters::RowSize::{Bytes, Of};
 use x86_operands::plans::{ModrmUse, RegisterSlot};
-use x86_operands::rows::Names::{ByReg, ByRm, BySuffix, Name, Own};
+use x86_operands::rows::Names::{ByReg, ByRm, Name, Own};
 use x86_operands::rows::When::{Always, F2, F3, NoPrefix, NoRepeat, Only66, RexR, RexW, With66};
 use x86_operands::rows::{FormRow, Reg, Rm};
-use x86_operands::{Last, encoded, other, read, refusal};
+use x86_operands::{Last, Size, encoded, other, read, refusal, suffixed};
 use x86_regs::RegisterClass;
 
 const I8: Letter = Letter::Last(Last::I8);
@@ -54,7 +54,7 @@ const ROWS_F30F38D8: &[FormRow; 4] = &[
 
 const ROWS_F30F38DC: &[FormRow; 2] = &[
     read!(Memory Reg::Any, Rm::Any; Always; Name(422); Two(G(X), E(X)); Bytes(48); Bytes(48)), // AESENC128KL
-    read!(Register Reg::Any, Rm::Any; Always; Name(563); Two(G(X), E(X)); Of(V); Of(V)), // LOADIWKEY
+    read!(Register Reg::Any, Rm::Any; Always; Name(563); Two(G(X), E(X)); Of(Size::V); Of(Size::V)), // LOADIWKEY
 ];
 
 const ROWS_F30F38DD: &[FormRow; 2] = &[
@@ -73,12 +73,12 @@ const ROWS_F30F38DF: &[FormRow; 2] = &[
 ];
 
 const ROWS_F30F38FA: &[FormRow; 2] = &[
-    read!(Register Reg::Any, Rm::Any; Always; Name(448); Two(G(D), U(D)); Of(V); Of(V)), // ENCODEKEY128
+    read!(Register Reg::Any, Rm::Any; Always; Name(448); Two(G(D), U(D)); Of(Size::V); Of(Size::V)), // ENCODEKEY128
     refusal!(Either Reg::Any, Rm::Any; Always; Zero; BadOpcode AfterAddress),
 ];
 
 const ROWS_F30F38FB: &[FormRow; 2] = &[
-    read!(Register Reg::Any, Rm::Any; Always; Name(449); Two(G(D), U(D)); Of(V); Of(V)), // ENCODEKEY256
+    read!(Register Reg::Any, Rm::Any; Always; Name(449); Two(G(D), U(D)); Of(Size::V); Of(Size::V)), // ENCODEKEY256
     refusal!(Either Reg::Any, Rm::Any; Always; Zero; BadOpcode AfterAddress),
 ];
 
@@ -138,22 +138,22 @@ const ROWS_0F0D: &[FormRow; 3] = &[
 ];
 
 const ROWS_0F0F: &[FormRow; 1] = &[
-    read!(Either Reg::Any, Rm::Any; Always; BySuffix; Two(Gmm, Emm); Bytes(8); Of(V)),
+    suffixed!(Either Reg::Any, Rm::Any; Always; Two(Gmm, Emm); Bytes(8); Of(Size::V)),
 ];
 
 const ROWS_0F12: &[FormRow; 2] = &[
     read!(Memory Reg::Any, Rm::Any; Always; Name(195); Two(G(X), E(X)); Bytes(8); Bytes(8)), // MOVLPS
-    read!(Register Reg::Any, Rm::Any; Always; Name(568); Two(G(X), E(X)); Of(V); Of(V)), // MOVHLPS
+    read!(Register Reg::Any, Rm::Any; Always; Name(568); Two(G(X), E(X)); Of(Size::V); Of(Size::V)), // MOVHLPS
 ];
 
 const ROWS_0F16: &[FormRow; 2] = &[
     read!(Memory Reg::Any, Rm::Any; Always; Name(196); Two(G(X), E(X)); Bytes(8); Bytes(8)), // MOVHPS
-    read!(Register Reg::Any, Rm::Any; Always; Name(569); Two(G(X), E(X)); Of(V); Of(V)), // MOVLHPS
+    read!(Register Reg::Any, Rm::Any; Always; Name(569); Two(G(X), E(X)); Of(Size::V); Of(Size::V)), // MOVLHPS
 ];
 
 const ROWS_0F18: &[FormRow; 2] = &[
     read!(Memory Reg::Any, Rm::Any; Always; ByReg([604, 601, 602, 603, 0, 0, 0, 0]); One(E(V)); Bytes(64); Bytes(64)), // PREFETCHNTA PREFETCH0 PREFETCH1 PREFETCH2 - - - -
-    read!(Either Reg::Any, Rm::Any; Always; Name(76); One(E(V)); Bytes(64); Of(V)), // NOP
+    read!(Either Reg::Any, Rm::Any; Always; Name(76); One(E(V)); Bytes(64); Of(Size::V)), // NOP
 ];
 
 const ROWS_RQ_CQ_0: &[FormRow; 4] = &[
@@ -181,22 +181,22 @@ const ROWS_DQ_RQ_0: &[FormRow; 2] = &[
 ];
 
 const ROWS_0F71: &[FormRow; 4] = &[
-    read!(Register Reg::Any, Rm::Any; Only66; ByReg([0, 0, 151, 0, 165, 0, 178, 0]); Two(U(X), U8); Of(V); Of(V)), // - - PSRLW - PSRAW - PSLLW -
-    read!(Register Reg::Any, Rm::Any; NoPrefix; ByReg([0, 0, 151, 0, 165, 0, 178, 0]); Two(Umm, U8); Of(V); Of(V)), // - - PSRLW - PSRAW - PSLLW -
+    read!(Register Reg::Any, Rm::Any; Only66; ByReg([0, 0, 151, 0, 165, 0, 178, 0]); Two(U(X), U8); Of(Size::V); Of(Size::V)), // - - PSRLW - PSRAW - PSLLW -
+    read!(Register Reg::Any, Rm::Any; NoPrefix; ByReg([0, 0, 151, 0, 165, 0, 178, 0]); Two(Umm, U8); Of(Size::V); Of(Size::V)), // - - PSRLW - PSRAW - PSLLW -
     refusal!(Register Reg::Any, Rm::Any; NoRepeat; Zero; BadOpcode AfterAddress),
     refusal!(Either Reg::Any, Rm::Any; Always; Zero; BadOperand AfterAddress),
 ];
 
 const ROWS_0F72: &[FormRow; 4] = &[
-    read!(Register Reg::Any, Rm::Any; Only66; ByReg([0, 0, 152, 0, 166, 0, 179, 0]); Two(U(X), U8); Of(V); Of(V)), // - - PSRLD - PSRAD - PSLLD -
-    read!(Register Reg::Any, Rm::Any; NoPrefix; ByReg([0, 0, 152, 0, 166, 0, 179, 0]); Two(Umm, U8); Of(V); Of(V)), // - - PSRLD - PSRAD - PSLLD -
+    read!(Register Reg::Any, Rm::Any; Only66; ByReg([0, 0, 152, 0, 166, 0, 179, 0]); Two(U(X), U8); Of(Size::V); Of(Size::V)), // - - PSRLD - PSRAD - PSLLD -
+    read!(Register Reg::Any, Rm::Any; NoPrefix; ByReg([0, 0, 152, 0, 166, 0, 179, 0]); Two(Umm, U8); Of(Size::V); Of(Size::V)), // - - PSRLD - PSRAD - PSLLD -
     refusal!(Register Reg::Any, Rm::Any; NoRepeat; Zero; BadOpcode AfterAddress),
     refusal!(Either Reg::Any, Rm::Any; Always; Zero; BadOperand AfterAddress),
 ];
 
 const ROWS_0F73: &[FormRow; 6] = &[
-    read!(Register Reg::Any, Rm::Any; Only66; ByReg([0, 0, 153, 608, 0, 0, 180, 606]); Two(U(X), U8); Of(V); Of(V)), // - - PSRLQ PSRLDQ - - PSLLQ PSLLDQ
-    read!(Register Reg::Any, Rm::Any; NoPrefix; ByReg([0, 0, 153, 0, 0, 0, 180, 0]); Two(Umm, U8); Of(V); Of(V)), // - - PSRLQ - - - PSLLQ -
+    read!(Register Reg::Any, Rm::Any; Only66; ByReg([0, 0, 153, 608, 0, 0, 180, 606]); Two(U(X), U8); Of(Size::V); Of(Size::V)), // - - PSRLQ PSRLDQ - - PSLLQ PSLLDQ
+    read!(Register Reg::Any, Rm::Any; NoPrefix; ByReg([0, 0, 153, 0, 0, 0, 180, 0]); Two(Umm, U8); Of(Size::V); Of(Size::V)), // - - PSRLQ - - - PSLLQ -
     refusal!(Register Reg::Is(3), Rm::Any; NoPrefix; Zero; BadOperand AfterAddress),
     refusal!(Register Reg::Is(7), Rm::Any; NoPrefix; Zero; BadOperand AfterAddress),
     refusal!(Register Reg::Any, Rm::Any; NoRepeat; Zero; BadOpcode AfterAddress),
@@ -207,7 +207,7 @@ const ROWS_0FAE: &[FormRow; 17] = &[
     read!(Register Reg::Is(6), Rm::Any; F2; Name(655); One(RdInReg); Bytes(0); Bytes(0)), // UMWAIT
     refusal!(Memory Reg::Any, Rm::Any; F2; Zero; BadOperand AtModRM),
     refusal!(Either Reg::Is(4), Rm::Any; With66; Zero; BadOpcode AtModRM),
-    read!(Either Reg::Is(4), Rm::Any; F3; Name(610); One(E(Dq)); Of(Dq); Bytes(0)), // PTWRITE
+    read!(Either Reg::Is(4), Rm::Any; F3; Name(610); One(E(Dq)); Of(Size::Dq); Bytes(0)), // PTWRITE
     read!(Memory Reg::Is(6), Rm::Any; F3; Name(434); One(M); Bytes(8); Bytes(8)), // CLRSSBSY
     refusal!(Memory Reg::Any, Rm::Any; F3; Zero; BadOperand AtModRM),
     read!(Register Reg::Any, Rm::Any; F3; ByReg([614, 615, 671, 672, 0, 548, 0, 0]); One(U(Dq)); Bytes(0); Bytes(0)), // RDFSBASE RDGSBASE WRFSBASE WRGSBASE - INCSSP - -
@@ -224,7 +224,7 @@ const ROWS_0FAE: &[FormRow; 17] = &[
 ];
 
 const ROWS_0FBA: &[FormRow; 2] = &[
-    read!(Either Reg::Any, Rm::Any; Always; ByReg([0, 0, 0, 0, 118, 119, 120, 121]); Two(E(Vq), I8); Of(Vq); Bytes(0)), // - - - - BT BTS BTR BTC
+    read!(Either Reg::Any, Rm::Any; Always; ByReg([0, 0, 0, 0, 118, 119, 120, 121]); Two(E(Vq), I8); Of(Size::Vq); Bytes(0)), // - - - - BT BTS BTR BTC
     refusal!(Either Reg::Any, Rm::Any; Always; Zero; BadOpcode AtModRM),
 ];
 
@@ -261,7 +261,7 @@ const ROWS_F20F78: &[FormRow; 2] = &[
 const ROWS_F30F1E: &[FormRow; 3] = &[
     read!(Register Reg::Is(7), Rm::Is(2); Always; Name(451); Zero; Bytes(0); Bytes(0)), // ENDBR64
     read!(Register Reg::Is(7), Rm::Is(3); Always; Name(450); Zero; Bytes(0); Bytes(0)), // ENDBR32
-    read!(Either Reg::Any, Rm::Any; Always; Name(76); Two(E(V), G(V)); Of(V); Of(V)), // NOP
+    read!(Either Reg::Any, Rm::Any; Always; Name(76); Two(E(V), G(V)); Of(Size::V); Of(Size::V)), // NOP
 ];
 
 const ROWS_80: &[FormRow; 1] = &[
@@ -269,16 +269,16 @@ const ROWS_80: &[FormRow; 1] = &[
 ];
 
 const ROWS_81: &[FormRow; 1] = &[
-    read!(Either Reg::Any, Rm::Any; Always; ByReg([1, 2, 3, 4, 5, 6, 7, 8]); Two(E(V), IV); Of(V); Of(V)), // ADD OR ADC SBB AND SUB XOR CMP
+    read!(Either Reg::Any, Rm::Any; Always; ByReg([1, 2, 3, 4, 5, 6, 7, 8]); Two(E(V), IV); Of(Size::V); Of(Size::V)), // ADD OR ADC SBB AND SUB XOR CMP
 ];
 
 const ROWS_83: &[FormRow; 1] = &[
-    read!(Either Reg::Any, Rm::Any; Always; ByReg([1, 2, 3, 4, 5, 6, 7, 8]); Two(E(V), I8); Of(V); Of(V)), // ADD OR ADC SBB AND SUB XOR CMP
+    read!(Either Reg::Any, Rm::Any; Always; ByReg([1, 2, 3, 4, 5, 6, 7, 8]); Two(E(V), I8); Of(Size::V); Of(Size::V)), // ADD OR ADC SBB AND SUB XOR CMP
 ];
 
 const ROWS_8F: &[FormRow; 3] = &[
-    read!(Either Reg::Is(0), Rm::Any; With66; Name(10); One(E(V)); Of(V); Of(V)), // POP
-    read!(Either Reg::Is(0), Rm::Any; Always; Name(10); One(E(V)); Bytes(8); Of(V)), // POP
+    read!(Either Reg::Is(0), Rm::Any; With66; Name(10); One(E(V)); Of(Size::V); Of(Size::V)), // POP
+    read!(Either Reg::Is(0), Rm::Any; Always; Name(10); One(E(V)); Bytes(8); Of(Size::V)), // POP
     refusal!(Either Reg::Any, Rm::Any; Always; Zero; Incomplete AfterAddress),
 ];
 
@@ -287,7 +287,7 @@ const ROWS_C0: &[FormRow; 1] = &[
 ];
 
 const ROWS_C1: &[FormRow; 1] = &[
-    read!(Either Reg::Any, Rm::Any; Always; ByReg([624, 625, 612, 613, 637, 638, 627, 628]); Two(E(V), I8); Of(V); Of(V)), // ROL ROR RCL RCR SHL SHR SAL SAR
+    read!(Either Reg::Any, Rm::Any; Always; ByReg([624, 625, 612, 613, 637, 638, 627, 628]); Two(E(V), I8); Of(Size::V); Of(Size::V)), // ROL ROR RCL RCR SHL SHR SAL SAR
 ];
 
 const ROWS_D0: &[FormRow; 1] = &[
@@ -295,7 +295,7 @@ const ROWS_D0: &[FormRow; 1] = &[
 ];
 
 const ROWS_D1: &[FormRow; 1] = &[
-    read!(Either Reg::Any, Rm::Any; Always; ByReg([624, 625, 612, 613, 637, 638, 627, 628]); Two(E(V), SIGNED_ONE); Of(V); Of(V)), // ROL ROR RCL RCR SHL SHR SAL SAR
+    read!(Either Reg::Any, Rm::Any; Always; ByReg([624, 625, 612, 613, 637, 638, 627, 628]); Two(E(V), SIGNED_ONE); Of(Size::V); Of(Size::V)), // ROL ROR RCL RCR SHL SHR SAL SAR
 ];
 
 const ROWS_D2: &[FormRow; 1] = &[
@@ -303,7 +303,7 @@ const ROWS_D2: &[FormRow; 1] = &[
 ];
 
 const ROWS_D3: &[FormRow; 1] = &[
-    read!(Either Reg::Any, Rm::Any; Always; ByReg([624, 625, 612, 613, 637, 638, 627, 628]); Two(E(V), CL); Of(V); Of(V)), // ROL ROR RCL RCR SHL SHR SAL SAR
+    read!(Either Reg::Any, Rm::Any; Always; ByReg([624, 625, 612, 613, 637, 638, 627, 628]); Two(E(V), CL); Of(Size::V); Of(Size::V)), // ROL ROR RCL RCR SHL SHR SAL SAR
 ];
 
 const ROWS_C6: &[FormRow; 3] = &[
@@ -313,8 +313,8 @@ const ROWS_C6: &[FormRow; 3] = &[
 ];
 
 const ROWS_C7: &[FormRow; 3] = &[
-    read!(Either Reg::Is(0), Rm::Any; Always; Name(33); Two(E(V), IV); Of(V); Of(V)), // MOV
-    read!(Register Reg::Any, Rm::Is(0); Always; Name(675); One(Jv); Of(V); Of(V)), // XBEGIN
+    read!(Either Reg::Is(0), Rm::Any; Always; Name(33); Two(E(V), IV); Of(Size::V); Of(Size::V)), // MOV
+    read!(Register Reg::Any, Rm::Is(0); Always; Name(675); One(Jv); Of(Size::V); Of(Size::V)), // XBEGIN
     refusal!(Either Reg::Any, Rm::Any; Always; Zero; BadOperand AfterAddress),
 ];
 
@@ -324,8 +324,8 @@ const ROWS_F6: &[FormRow; 2] = &[
 ];
 
 const ROWS_F7: &[FormRow; 2] = &[
-    read!(Either Reg::Any, Rm::Any; Always; ByReg([31, 31, 0, 0, 0, 0, 0, 0]); Two(E(V), IV); Of(V); Of(V)), // TEST TEST - - - - - -
-    read!(Either Reg::Any, Rm::Any; Always; ByReg([0, 0, 574, 573, 570, 12, 444, 546]); One(E(V)); Of(V); Of(V)), // - - NOT NEG MUL IMUL DIV IDIV
+    read!(Either Reg::Any, Rm::Any; Always; ByReg([31, 31, 0, 0, 0, 0, 0, 0]); Two(E(V), IV); Of(Size::V); Of(Size::V)), // TEST TEST - - - - - -
+    read!(Either Reg::Any, Rm::Any; Always; ByReg([0, 0, 574, 573, 570, 12, 444, 546]); One(E(V)); Of(Size::V); Of(Size::V)), // - - NOT NEG MUL IMUL DIV IDIV
 ];
 
 const ROWS_FE: &[FormRow; 2] = &[
@@ -333,14 +333,13 @@ const ROWS_FE: &[FormRow; 2] = &[
     refusal!(Either Reg::Any, Rm::Any; Always; Zero; BadOpcode AfterAddress),
 ];
 
-const ROWS_FF: &[FormRow; 10] = &[
-    read!(Either Reg::Any, Rm::Any; Always; ByReg([547, 443, 0, 0, 0, 0, 0, 0]); One(E(V)); Of(V); Of(V)), // INC DEC - - - - - -
+const ROWS_FF: &[FormRow; 9] = &[
+    read!(Either Reg::Any, Rm::Any; Always; ByReg([547, 443, 0, 0, 0, 0, 0, 0]); One(E(V)); Of(Size::V); Of(Size::V)), // INC DEC - - - - - -
     read!(Either Reg::Is(2), Rm::Any; Always; Name(58); One(E(Q)); Bytes(8); Bytes(8)), // CALL
     read!(Memory Reg::Is(3), Rm::Any; Always; Name(426); One(M); Bytes(10); Bytes(10)), // CALLF
-    read!(Either Reg::Is(4), Rm::Any; Always; Name(54); One(E(Q)); Bytes(8); Of(V)), // JMP
+    read!(Either Reg::Is(4), Rm::Any; Always; Name(54); One(E(Q)); Bytes(8); Of(Size::V)), // JMP
     read!(Memory Reg::Is(5), Rm::Any; Always; Name(556); One(M); Bytes(10); Bytes(10)), // JMPF
-    read!(Either Reg::Is(6), Rm::Any; With66; Name(9); One(E(V)); Bytes(2); Bytes(2)), // PUSH
-    read!(Either Reg::Is(6), Rm::Any; Always; Name(9); One(E(V)); Bytes(8); Bytes(8)), // PUSH
+    read!(Either Reg::Is(6), Rm::Any; Always; Name(9); One(E(V)); Of(Size::Vq); Of(Size::Vq)), // PUSH
     refusal!(Register Reg::Is(3), Rm::Any; Always; Zero; BadOperand AtModRM),
     refusal!(Register Reg::Is(5), Rm::Any; Always; Zero; BadOperand AtModRM),
     refusal!(Either Reg::Any, Rm::Any; Always; Zero; BadOpcode AfterAddress),
@@ -572,7 +571,7 @@ pub(crate) const REG_LINES: &[[RegLine; 8]; 15] = &[
         rows_alone!(),
         line!(54 EitherForm E B Q Absent Eight V), // JMP
         rows_alone!(),
-        line!(9 EitherForm E B V Absent Push Push), // PUSH
+        line!(9 EitherForm E B V Absent Vq Vq), // PUSH
         rows_alone!(),
     ], // FF
 ];

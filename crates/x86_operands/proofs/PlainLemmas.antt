@@ -13,7 +13,7 @@ use Rattle.x86_operands.specs.Forms.{form_plan, form_record, modrm_use}
 use Rattle.x86_operands.specs.Rows.{form_rows}
 use Rattle.x86_operands.specs.declared.tables.TheConstants.{ROWS, SPANS}
 use Rattle.x86_operands.proofs.RowLemmas.{HasGap, row_left_out}
-use Rattle.x86_operands.proofs.ContentLemmas.{passes, without_gap, at_most_64, at_most_8, keeps_reg, row_fits, rows_pass}
+use Rattle.x86_operands.proofs.ColumnLemmas.{passes, without_gap, at_most_64, at_most_8, keeps_reg, row_fits, rows_pass}
 
 rows_fit : (f : Form) → list_all (row_fits (is_group f)) (form_rows f) ≡ true
 unfolding form_rows

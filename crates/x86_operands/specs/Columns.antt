@@ -1,9 +1,10 @@
 -- What the columns of a row mean. A row says where it is (the form of ModRM, reg, rm, the prefixes) and what it has
 -- there: a name and operands, or a refusal. The first row that holds counts. `own` is the row in the opcode map. Source:
 -- Intel SDM volume 2, appendix A.2 (the letters of operands) and A.4 (the columns of its tables of opcode extensions).
-use Rattle.std.specs.Prelude.{ℕ, nat_le, ◌==◌, ◌+◌, Bool, true, not, ◌&&◌, ◌||◌, if◌then◌else◌, List, [], ◌∷◌, slice_index_or, unwrap_or}
+use Rattle.std.specs.Prelude.{ℕ, nat_le, ◌==◌, Bool, true, not, ◌&&◌, ◌||◌, if◌then◌else◌, List, [], ◌∷◌, slice_index_or, unwrap_or}
 use Rattle.x86_operands.specs.Vocabulary.{RegisterClass, Prefixes, TableRow, BadOpcode, AtModRM, Keeps, OperandEncoding, OperandEncodings, Plan, Verdict, width_of, reg_spec, reg_field, rm_field, is_memory, operand_size, address_size, has_r, has_w, has_b, repnz, rep, class_of, v_class}
-use Rattle.x86_operands.specs.RowVocabulary.{ByReg, ByRm, BySuffix, Bytes, Content, FarPointer, FormRow, Letter, Letters, Memory, Name, Named, Names, Of, Own, Place, Reads, Refuses, Reg, Register, Rm, RowSize, When}
+use Rattle.x86_operands.specs.RowVocabulary.{ByReg, ByRm, Bytes, FormRow, Letter, Letters, Memory, Name, Names, Of, Own, Place, Reg, Register, Rm, RowSize, When}
+use Rattle.x86_operands.specs.Words.{otherwise}
 use Rattle.x86_regs.specs.declared.RegisterClass.TheVariants as class
 use Rattle.x86_opcodes.specs.Names.{Invalid}
 use Rattle.x86_opcodes.specs.Numbers.{opcode_numbered}
@@ -12,7 +13,6 @@ use Rattle.x86_operands.specs.declared.plans.OperandEncoding.TheVariants as enco
 use Rattle.x86_operands.specs.declared.plans.OperandEncodings.TheVariants as coded
 use Rattle.x86_operands.specs.declared.plans.RegisterSlot.TheVariants as slot
 use Rattle.x86_operands.specs.declared.plans.PointerSlot.TheVariants as pointer
-use Rattle.x86_operands.specs.declared.plans.Verdict.TheVariants as verdict
 use Rattle.x86_operands.specs.Encodings.{last_encoding, size_bytes}
 use Rattle.x86_operands.specs.Plans.{rm_number, register_at, accumulator_of}
 use Rattle.x86_operands.specs.declared.letters.Letter.TheVariants as letter
@@ -61,10 +61,10 @@ none = 0
 abbrev pub name_at : List ℕ → ℕ → ℕ
 name_at names n = slice_index_or names n none
 
-abbrev pub is_named : Content → ℕ → Bool
-is_named (Reads (ByReg names) operands memory register change) m = not (name_at names (reg_field m) == none)
-is_named (Reads (ByRm names) operands memory register change) m = not (name_at names (rm_field m) == none)
-is_named content m = true
+abbrev pub is_named : Names → ℕ → Bool
+is_named (ByReg names) m = not (name_at names (reg_field m) == none)
+is_named (ByRm names) m = not (name_at names (rm_field m) == none)
+is_named names m = true
 
 abbrev pub is_there : FormRow → TableRow → Bool → Prefixes → ℕ → Bool
 is_there row own strict p m =
@@ -72,12 +72,12 @@ is_there row own strict p m =
     && (is_reg row.at.reg m
     && (is_rm row.at.rm strict m
     && (is_prefixed row.when own p
-    && is_named row.content m)))
+    && is_named row.names m)))
 
--- what the first row has that is there; where none is, the opcode is refused
-abbrev pub choose : List FormRow → TableRow → Bool → Prefixes → ℕ → Content
-choose [] own strict p m = Refuses letters.Zero BadOpcode AtModRM
-choose (row ∷ rest) own strict p m = if is_there row own strict p m then row.content else choose rest own strict p m
+-- the first row that is there; where none is, the opcode is refused
+abbrev pub choose : List FormRow → TableRow → Bool → Prefixes → ℕ → FormRow
+choose [] own strict p m = otherwise BadOpcode AtModRM
+choose (row ∷ rest) own strict p m = if is_there row own strict p m then row else choose rest own strict p m
 
 -- ---- the opcode
 
@@ -87,7 +87,6 @@ named n = unwrap_or (opcode_numbered n) Invalid
 
 abbrev pub opcode_of : Names → TableRow → ℕ → ℕ
 opcode_of Own own m = own.opcode
-opcode_of BySuffix own m = Invalid
 opcode_of (Name n) own m = named n
 opcode_of (ByReg names) own m = named (name_at names (reg_field m))
 opcode_of (ByRm names) own m = named (name_at names (rm_field m))
@@ -130,32 +129,19 @@ operand_encodings (letters.Two a b) own p m = coded.Two (letter_encoding a own p
 operand_encodings (letters.Three a b c) own p m = coded.Three (letter_encoding a own p m) (letter_encoding b own p m) (letter_encoding c own p m)
 operand_encodings (letters.Four a b c d) own p m = coded.Four (letter_encoding a own p m) (letter_encoding b own p m) (letter_encoding c own p m) (letter_encoding d own p m)
 
--- the bytes of a size; a far pointer has a selector of 2 bytes, and an offset of v
+-- the bytes of a size
 abbrev pub row_bytes : RowSize → ℕ → Prefixes → ℕ
 row_bytes (Bytes n) opcode p = n
-row_bytes (Of w) opcode p = width_of (class_of w p)
-row_bytes (Named size) opcode p = size_bytes size opcode p
-row_bytes FarPointer opcode p = 2 + width_of (v_class p)
+row_bytes (Of size) opcode p = size_bytes size opcode p
 
 -- ---- the plan of a row
 
-abbrev pub verdict_of : Names → Verdict
-verdict_of BySuffix = verdict.NamedBySuffix
-verdict_of names = verdict.Accepts
-
 -- what a row has at a ModRM byte
-abbrev pub plan_of_row : Content → TableRow → Prefixes → ℕ → Plan
-plan_of_row (Reads names operands memory register change) own p m = record {
-  opcode = opcode_of names own m;
-  encodings = operand_encodings operands own p m;
-  size = if is_memory m then row_bytes memory own.opcode p else row_bytes register own.opcode p;
-  change = change;
-  verdict = verdict_of names;
-}
-plan_of_row (Refuses operands fault moment) own p m = record {
-  opcode = Invalid;
-  encodings = operand_encodings operands own p m;
-  size = 0;
-  change = Keeps;
-  verdict = verdict.Refuses fault moment;
+abbrev pub plan_of_row : FormRow → TableRow → Prefixes → ℕ → Plan
+plan_of_row row own p m = record {
+  opcode = opcode_of row.names own m;
+  encodings = operand_encodings row.operands own p m;
+  size = if is_memory m then row_bytes row.in_memory own.opcode p else row_bytes row.in_register own.opcode p;
+  change = row.change;
+  verdict = row.verdict;
 }

@@ -1,9 +1,9 @@
 -- What a line of the operand encodings means. In a form that has sizes for named opcodes alone, any other opcode has size 0.
-use Rattle.std.specs.Prelude.{ℕ, Bool, true, false, ◌==◌, if◌then◌else◌, not, pos, ◌&&◌, ◌||◌, List, [], ◌∷◌}
+use Rattle.std.specs.Prelude.{ℕ, Bool, true, false, ◌==◌, ◌+◌, if◌then◌else◌, not, pos, ◌&&◌, ◌||◌, List, [], ◌∷◌}
 use Rattle.x86_regs.specs.declared.RegisterClass.TheVariants as class
 use Rattle.x86_opcodes.specs.Kinds.{is_among}
 use Rattle.x86_opcodes.specs.Names.{CALL, CMPSD, CMPSS, ROUNDSS, ROUNDSD, MOVDDUP, MOVNTSS, MOVNTPS, MOVNTPD, MOVNTDQ, PEXTRB, PEXTRW, EXTRACTPS, PINSRB, INSERTPS, PMOVSXBQ, PMOVZXBQ, PMOVSXBD, PMOVZXBD, PMOVSXWQ, PMOVZXWQ, UCOMISS, COMISS, CVTSS2SD, MOVLPD, MOVHPD, PUNPCKLBW, PUNPCKLWD, PUNPCKLDQ, RETURN, RETF, PUSHF, POPF, LEAVE, XLAT}
-use Rattle.x86_operands.specs.Vocabulary.{width_of, reg_spec, RegisterClass, Prefixes, AtModRM, AfterAddress, Width, OperandEncoding, OperandEncodings, Zero, One, Two, Three, Plan, Position, First, Second, Third, Nowhere, Order, AfterOpcode, Last, Size, FormEncoding, ModrmUse, class_of, v_class, dq_class, is_memory, has_w, operand_size}
+use Rattle.x86_operands.specs.Vocabulary.{width_of, reg_spec, RegisterClass, Prefixes, AtModRM, AfterAddress, Width, OperandEncoding, OperandEncodings, Zero, One, Two, Three, Plan, Position, First, Second, Third, Nowhere, Order, AfterOpcode, Last, Size, FormEncoding, ModrmUse, class_of, v_class, vq_class, dq_class, is_memory, has_w, operand_size}
 use Rattle.x86_fields.specs.declared.sizes.Width.TheVariants as width
 use Rattle.x86_operands.specs.declared.plans.OperandEncoding.TheVariants as encoding
 use Rattle.x86_operands.specs.declared.plans.RegisterSlot.TheVariants as slot
@@ -37,7 +37,7 @@ named_size size.Unpack o = first_size ((PUNPCKLBW ∷ PUNPCKLWD ∷ PUNPCKLDQ �
 named_size size.Extend o = first_size ((PMOVSXBQ ∷ PMOVZXBQ ∷ [], 2) ∷ (PMOVSXBD ∷ PMOVZXBD ∷ PMOVSXWQ ∷ PMOVZXWQ ∷ UCOMISS ∷ COMISS ∷ CVTSS2SD ∷ [], 4) ∷ []) 8 o
 named_size s o = 0
 
--- the bytes of a size
+-- the bytes of a size; a far pointer has a selector of 2 bytes, and an offset of v
 abbrev pub size_bytes : Size → ℕ → Prefixes → ℕ
 size_bytes size.Zero o p = 0
 size_bytes size.One o p = 1
@@ -47,7 +47,8 @@ size_bytes size.Eight o p = 8
 size_bytes size.Sixteen o p = 16
 size_bytes size.V o p = width_of (v_class p)
 size_bytes size.Dq o p = width_of (dq_class p)
-size_bytes size.Push o p = if operand_size p then 2 else 8
+size_bytes size.Vq o p = width_of (vq_class p)
+size_bytes size.FarPointer o p = 2 + width_of (v_class p)
 size_bytes size.Call o p = if o == CALL then 8 else 0
 size_bytes s o p = named_size s o
 

@@ -7,10 +7,8 @@ pub use Rattle.x86_operands.specs.declared.rows.Reg.{Reg}
 pub use Rattle.x86_operands.specs.declared.rows.Rm.{Rm}
 pub use Rattle.x86_operands.specs.declared.rows.When.{When}
 pub use Rattle.x86_operands.specs.declared.rows.Names.{Names}
-pub use Rattle.x86_operands.specs.declared.rows.Content.{Content}
 pub use Rattle.x86_operands.specs.declared.rows.Where.{Where}
 pub use Rattle.x86_operands.specs.declared.rows.FormRow.{FormRow}
-pub use Rattle.x86_operands.specs.declared.letters.RowSize.TheVariants.{Bytes, Of, Named, FarPointer}
+pub use Rattle.x86_operands.specs.declared.letters.RowSize.TheVariants.{Bytes, Of}
 pub use Rattle.x86_operands.specs.declared.rows.Place.TheVariants.{Bare, Memory, Register, Either}
-pub use Rattle.x86_operands.specs.declared.rows.Names.TheVariants.{Own, BySuffix, Name, ByReg, ByRm}
-pub use Rattle.x86_operands.specs.declared.rows.Content.TheVariants.{Reads, Refuses}
+pub use Rattle.x86_operands.specs.declared.rows.Names.TheVariants.{Own, Name, ByReg, ByRm}

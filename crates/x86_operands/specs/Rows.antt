@@ -8,18 +8,18 @@ use Rattle.std.specs.Prelude.{List, [], ◌∷◌}
 use Rattle.x86_opcodes.specs.Names.{CBW, CDQ, CDQE, CQO, CWD, CWDE, ENQCMD, ENQCMDS, IRET, IRETD, IRETQ, JECXZ, LFS, LGS, LSS, MOVHPD, MOVLPD, MOVQ, NOP, PEXTRD, PEXTRQ, PINSRD, PINSRQ}
 use Rattle.x86_fields.specs.declared.sizes.Width.TheVariants.{B, W, D, Q, X, V, Vq, Vd, Dq}
 use Rattle.x86_operands.specs.Vocabulary.{Form, BadOperand, Incomplete, AtModRM, AfterAddress, AfterSuffix, SetsEs}
-use Rattle.x86_operands.specs.RowVocabulary.{FormRow, Own, Name, Bytes, Of, Named, FarPointer}
+use Rattle.x86_operands.specs.RowVocabulary.{FormRow, Own, Name, Bytes, Of}
 use Rattle.x86_forms.specs.declared.Form.TheVariants as form
 use Rattle.x86_operands.specs.declared.plans.RegisterSlot.TheVariants.{Reg, Rm, Third}
 use Rattle.x86_operands.specs.declared.plans.PointerSlot.TheVariants.{Deref, DerefEsi, DerefEdi, DerefRsi, DerefRdi}
 use Rattle.x86_regs.specs.declared.RegisterClass.TheVariants as class
-use Rattle.x86_operands.specs.declared.encodings.Size.TheVariants.{Bare, Call, Return, Duplicate, Stream, Scalar, Extract, Insert, Unpack, Extend}
+use Rattle.x86_operands.specs.declared.encodings.Size.TheVariants.{FarPointer, Bare, Call, Return, Duplicate, Stream, Scalar, Extract, Insert, Unpack, Extend}
 use Rattle.x86_operands.specs.declared.encodings.Last.TheVariants.{I8, U8, U16, I32, Iv, Ivq, Ip, UnsignedOne}
 use Rattle.x86_operands.specs.declared.encodings.Last.TheVariants as last
 use Rattle.x86_operands.specs.declared.letters.Letter.TheVariants.{E, G, U, M, Gmm, Emm, Umm, Sr, Z, A, X16, Offset, Source, Destination, At, Implied, Last}
 use Rattle.x86_operands.specs.declared.letters.Letters.TheVariants.{Zero, One, Two, Three}
 use Rattle.x86_operands.specs.declared.rows.When.TheVariants.{Always, With66, With67, RexW, RexR, Register0, Opcode}
-use Rattle.x86_operands.specs.Words.{bare, mem, reg, both, both_at, both_from, size, size_v, size_dq, by_name, or_v, read, changing, refusing, refusal, otherwise, named_by_v, without_modrm, with_modrm, with_memory, with_register}
+use Rattle.x86_operands.specs.Words.{bare, mem, reg, both, both_at, both_from, of_dq, size, size_of, size_v, size_dq, or_v, read, changing, refusing, refusal, otherwise, named_by_v, without_modrm, with_modrm, with_memory, with_register}
 
 -- of the plain forms none is left to the last line, for groups
 unfoldable pub form_rows : Form → List FormRow
@@ -28,15 +28,15 @@ form_rows (form.Zv_R n) = without_modrm (One (Z Reg Vq)) (size 8)
 form_rows (form.Zb_Ib_R n) = without_modrm (Two (Z Reg B) (Last U8)) (size 0)
 form_rows (form.Zv_Ivq_R n) = without_modrm (Two (Z Reg V) (Last Ivq)) (size 0)
 form_rows (form.Zv_B n) = without_modrm (One (Z Reg V)) (size 0)
-form_rows form.Nothing = without_modrm Zero (by_name Bare)
+form_rows form.Nothing = without_modrm Zero (size_of Bare)
 form_rows form.Ibs = without_modrm (One (Last I8)) (size 0)
-form_rows form.Jvds = without_modrm (One (Last I32)) (by_name Call)
+form_rows form.Jvds = without_modrm (One (Last I32)) (size_of Call)
 form_rows form.PushIbs = without_modrm (One (Last I8)) (size 8)
 form_rows form.PushIvs = without_modrm (One (Last Ip)) (size 8)
 form_rows form.Ib = without_modrm (One (Last U8)) (size 0)
 form_rows form.I_3 = without_modrm (One (Last last.Three)) (size 0)
 form_rows form.I_1 = without_modrm (One (Last UnsignedOne)) (size 0)
-form_rows form.Iw = without_modrm (One (Last U16)) (by_name Return)
+form_rows form.Iw = without_modrm (One (Last U16)) (size_of Return)
 form_rows form.AH = without_modrm Zero (size 0)
 form_rows form.AL_Ibs = without_modrm (Two (A B) (Last I8)) (size 0)
 form_rows form.AX_Ivd = without_modrm (Two (A V) (Last Iv)) (size 0)
@@ -108,18 +108,18 @@ form_rows form.Mdq_Gdq = with_memory (Two M (G Dq)) size_dq
 form_rows form.G_E_q = with_modrm (Two (G Q) (E Q)) (or_v (Bytes 8))
 form_rows form.E_G_q = with_modrm (Two (E Q) (G Q)) (or_v (Bytes 8))
 -- xmm registers
-form_rows form.G_E_xmm = with_modrm (Two (G X) (E X)) (or_v (Named Duplicate))
+form_rows form.G_E_xmm = with_modrm (Two (G X) (E X)) (or_v (Of Duplicate))
 form_rows form.E_G_xmm = with_modrm (Two (E X) (G X)) (or_v (Bytes 16))
 form_rows form.G_Ed_xmm = with_modrm (Two (G X) (E X)) (or_v (Bytes 4))
 form_rows form.Ed_G_xmm = with_modrm (Two (E X) (G X)) (or_v (Bytes 4))
 form_rows form.G_M_xmm = with_memory (Two (G X) M) (size 16)
-form_rows form.M_G_xmm = with_memory (Two M (G X)) (by_name Stream)
-form_rows form.G_E_xmm_Ib = with_modrm (Three (G X) (E X) (Last I8)) (or_v (Named Scalar))
+form_rows form.M_G_xmm = with_memory (Two M (G X)) (size_of Stream)
+form_rows form.G_E_xmm_Ib = with_modrm (Three (G X) (E X) (Last I8)) (or_v (Of Scalar))
 form_rows form.G_E_xmm_Ub = with_modrm (Three (G X) (E X) (Last U8)) (or_v (Bytes 16))
 form_rows form.PMOVX_G_E_xmm =
     refusing reg (Opcode MOVLPD) (Two (G X) (E X)) BadOperand AtModRM ∷
     refusing reg (Opcode MOVHPD) (Two (G X) (E X)) BadOperand AtModRM ∷
-    read both Always Own (Two (G X) (E X)) (or_v (Named Extend)) ∷ []
+    read both Always Own (Two (G X) (E X)) (or_v (Of Extend)) ∷ []
 form_rows form.PMOVX_E_G_xmm = with_modrm (Two (E X) (G X)) (or_v (Bytes 8))
 form_rows form.MOVQ_f30f = with_modrm (Two (G X) (E X)) (or_v (Bytes 8))
 form_rows form.Gdq_Eq_xmm = with_modrm (Two (G V) (E X)) (or_v (Bytes 8))
@@ -128,8 +128,8 @@ form_rows form.Gd_U_xmm = with_register (Two (G D) (U X)) size_v
 form_rows form.G_U_xmm = with_register (Two (G X) (U X)) size_v
 form_rows form.MASKMOVDQU = with_register (Two (G X) (U X)) (size 16)
 form_rows form.G_U_xmm_Ub = with_register (Three (G D) (U X) (Last U8)) size_v
-form_rows form.Ev_G_xmm_Ib = with_modrm (Three (E V) (G X) (Last U8)) (by_name Extract)
-form_rows form.G_Ev_xmm_Ib = with_modrm (Three (G X) (E X) (Last U8)) (or_v (Named Insert))
+form_rows form.Ev_G_xmm_Ib = with_modrm (Three (E V) (G X) (Last U8)) (size_of Extract)
+form_rows form.G_Ev_xmm_Ib = with_modrm (Three (G X) (E X) (Last U8)) (or_v (Of Insert))
 form_rows form.G_xmm_Ew_Ib = with_modrm (Three (G X) (E D) (Last U8)) (or_v (Bytes 2))
 form_rows form.G_xmm_Edq = with_modrm (Two (G X) (E Dq)) size_v
 -- mm registers
@@ -138,12 +138,12 @@ form_rows form.G_mm_E_xmm = with_modrm (Two Gmm (E X)) (or_v (Bytes 16))
 form_rows form.G_xmm_U_mm = with_register (Two (G X) Umm) size_v
 form_rows form.G_mm_U_xmm = with_register (Two Gmm (U X)) size_v
 form_rows form.G_U_mm = with_register (Two (G D) Umm) size_v
-form_rows form.G_E_mm = with_modrm (Two Gmm Emm) (or_v (Named Unpack))
+form_rows form.G_E_mm = with_modrm (Two Gmm Emm) (or_v (Of Unpack))
 form_rows form.G_mm_E = with_modrm (Two Gmm Emm) (or_v (Bytes 8))
 form_rows form.E_G_mm = with_modrm (Two Emm Gmm) (or_v (Bytes 8))
 form_rows form.G_E_mm_Ib = with_modrm (Three Gmm Emm (Last I8)) (Bytes 8, Bytes 0)
 form_rows form.G_mm_Edq = with_modrm (Two Gmm (E Dq)) size_v
-form_rows form.Edq_G_mm = with_modrm (Two (E Dq) Gmm) (or_v (Of Dq))
+form_rows form.Edq_G_mm = with_modrm (Two (E Dq) Gmm) (or_v of_dq)
 form_rows form.G_Mq_mm = with_memory (Two M Gmm) (size 8)
 form_rows form.G_mm_U_mm = with_register (Two Gmm Umm) (size 8)
 form_rows form.G_mm_Ew_Ib = with_modrm (Three Gmm (E D) (Last I8)) (or_v (Bytes 2))
@@ -159,9 +159,9 @@ form_rows form.Sw_Ew =
     otherwise BadOperand AfterAddress ∷ []
 -- far loads and other loads of whole registers, by the opcode
 form_rows form.INV_Gv_M =
-    read mem (Opcode LFS) Own (Two (G V) M) (FarPointer, FarPointer) ∷
-    read mem (Opcode LGS) Own (Two (G V) M) (FarPointer, FarPointer) ∷
-    read mem (Opcode LSS) Own (Two (G V) M) (FarPointer, FarPointer) ∷
+    read mem (Opcode LFS) Own (Two (G V) M) (size_of FarPointer) ∷
+    read mem (Opcode LGS) Own (Two (G V) M) (size_of FarPointer) ∷
+    read mem (Opcode LSS) Own (Two (G V) M) (size_of FarPointer) ∷
     read mem (Opcode ENQCMD) Own (Two (G Q) M) (size 64) ∷
     read mem (Opcode ENQCMDS) Own (Two (G Q) M) (size 64) ∷
     read mem Always Own (Two (G Q) M) (size 16) ∷
@@ -175,11 +175,11 @@ form_rows form.Pextr_dq =
     read both RexW (Name PEXTRQ) (Three (E V) (G X) (Last U8)) size_dq ∷
     read both Always (Name PEXTRD) (Three (E V) (G X) (Last U8)) size_dq ∷ []
 form_rows form.Pinsr_dq =
-    read both RexW (Name PINSRQ) (Three (G X) (E X) (Last U8)) (or_v (Of Dq)) ∷
-    read both Always (Name PINSRD) (Three (G X) (E X) (Last U8)) (or_v (Of Dq)) ∷ []
+    read both RexW (Name PINSRQ) (Three (G X) (E X) (Last U8)) (or_v of_dq) ∷
+    read both Always (Name PINSRD) (Three (G X) (E X) (Last U8)) (or_v of_dq) ∷ []
 form_rows form.Edq_G_xmm =
-    read both RexW (Name MOVQ) (Two (E Dq) (G X)) (or_v (Of Dq)) ∷
-    read both Always Own (Two (E Dq) (G X)) (or_v (Of Dq)) ∷ []
+    read both RexW (Name MOVQ) (Two (E Dq) (G X)) (or_v of_dq) ∷
+    read both Always Own (Two (E Dq) (G X)) (or_v of_dq) ∷ []
 -- a memory form is refused after the immediate
 form_rows form.Rv_Gmm_Ib =
     read reg Always Own (Three (G D) Umm (Last U8)) size_v ∷

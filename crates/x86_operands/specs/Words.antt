@@ -2,9 +2,10 @@
 use Rattle.std.specs.Prelude.{ℕ, List, [], ◌∷◌}
 use Rattle.x86_regs.specs.declared.RegisterClass.TheVariants as class
 use Rattle.x86_fields.specs.MemorySizes.{undecided_size}
-use Rattle.x86_fields.specs.declared.sizes.Width.TheVariants.{V, Dq}
-use Rattle.x86_operands.specs.Vocabulary.{Fault, Moment, BadOperand, AtModRM, AfterAddress, PrefixChange, Keeps, Size}
-use Rattle.x86_operands.specs.RowVocabulary.{Bare, Bytes, ByReg, ByRm, Either, FormRow, Letter, Letters, Memory, Name, Named, Names, Of, Own, Place, Reads, Refuses, Reg, Register, Rm, RowSize, When, Where}
+use Rattle.x86_operands.specs.declared.encodings.Size.TheVariants.{V, Vq, Dq}
+use Rattle.x86_opcodes.specs.Names.{Invalid}
+use Rattle.x86_operands.specs.Vocabulary.{Fault, Moment, BadOperand, AtModRM, AfterAddress, PrefixChange, Keeps, Size, Verdict, Accepts, NamedBySuffix, Refuses}
+use Rattle.x86_operands.specs.RowVocabulary.{Bare, Bytes, ByReg, ByRm, Either, FormRow, Letter, Letters, Memory, Name, Names, Of, Own, Place, Reg, Register, Rm, RowSize, When, Where}
 use Rattle.x86_operands.specs.declared.plans.RegisterSlot.TheVariants as slot
 use Rattle.x86_operands.specs.declared.letters.Letter.TheVariants as letter
 use Rattle.x86_operands.specs.declared.letters.Letters.TheVariants as letters
@@ -95,39 +96,59 @@ ecx_third = letter.Implied slot.Third 1 class.D
 
 -- ---- memory sizes, in the memory form and in the register form
 
--- The same in both forms: so many bytes, one that the processor decides, that of v and of dq, and that of the operation.
+-- that of v, of vq and of dq, of one form
+abbrev pub of_v : RowSize
+of_v = Of V
+
+abbrev pub of_vq : RowSize
+of_vq = Of Vq
+
+abbrev pub of_dq : RowSize
+of_dq = Of Dq
+
+-- The same in both forms: so many bytes, one that the processor decides, and one that W and 66 or the operation decide.
 abbrev pub size : ℕ → RowSize × RowSize
 size n = (Bytes n, Bytes n)
 
 abbrev pub undecided : RowSize × RowSize
 undecided = size undecided_size
 
+abbrev pub size_of : Size → RowSize × RowSize
+size_of s = (Of s, Of s)
+
 abbrev pub size_v : RowSize × RowSize
-size_v = (Of V, Of V)
+size_v = size_of V
+
+abbrev pub size_vq : RowSize × RowSize
+size_vq = size_of Vq
 
 abbrev pub size_dq : RowSize × RowSize
-size_dq = (Of Dq, Of Dq)
-
-abbrev pub by_name : Size → RowSize × RowSize
-by_name s = (Named s, Named s)
+size_dq = size_of Dq
 
 -- a size in the memory form, and that of v in the register form
 abbrev pub or_v : RowSize → RowSize × RowSize
-or_v s = (s, Of V)
+or_v s = (s, of_v)
 
 -- ---- rows
 
--- a row that is read, and the change of the answer's prefixes: where, the prefixes, the name, the operands and the size
-abbrev pub changing : PrefixChange → Where → When → Names → Letters → RowSize × RowSize → FormRow
-changing change at when names operands size = record { at = at; when = when; content = Reads names operands size.0 size.1 change }
+-- a row: where, the prefixes, the name, the operands, the size, the change of the answer's prefixes, and the verdict
+abbrev pub row : Where → When → Names → Letters → RowSize × RowSize → PrefixChange → Verdict → FormRow
+row at when names operands size change verdict = record { at = at; when = when; names = names; operands = operands; in_memory = size.0; in_register = size.1; change = change; verdict = verdict }
 
+-- a row that is read; one that changes the prefixes of the answer; and one whose operation a last byte names
 abbrev pub read : Where → When → Names → Letters → RowSize × RowSize → FormRow
-read at when names operands size = changing Keeps at when names operands size
+read at when names operands size = row at when names operands size Keeps Accepts
+
+abbrev pub changing : PrefixChange → Where → When → Names → Letters → RowSize × RowSize → FormRow
+changing change at when names operands size = row at when names operands size change Accepts
+
+abbrev pub suffixed : Where → When → Letters → RowSize × RowSize → FormRow
+suffixed at when operands size = row at when (Name Invalid) operands size Keeps NamedBySuffix
 
 -- A row that is refused, and after which byte; the operands are those whose bytes it has. `otherwise` is wherever no row
 -- before it is.
 abbrev pub refusing : Where → When → Letters → Fault → Moment → FormRow
-refusing at when operands fault moment = record { at = at; when = when; content = Refuses operands fault moment }
+refusing at when operands fault moment = row at when (Name Invalid) operands (size 0) Keeps (Refuses fault moment)
 
 abbrev pub refusal : Where → When → Fault → Moment → FormRow
 refusal at when fault moment = refusing at when letters.Zero fault moment

@@ -95,8 +95,9 @@ pub enum Size {
     Sixteen,
     V,
     Dq,
-    /// 2 under 66, else 8.
-    Push,
+    Vq,
+    /// A selector of 2 bytes, and an offset of v.
+    FarPointer,
     Call,
     Bare,
     Return,

@@ -76,12 +76,8 @@ pub enum Letters {
 #[derive(Clone, Copy, Drop)]
 pub enum RowSize {
     Bytes(u8),
-    /// That of a register.
-    Of(Width),
-    /// That of the operation.
-    Named(Size),
-    /// A selector of 2 bytes, and an offset of v.
-    FarPointer,
+    /// That of W and 66, or of the operation.
+    Of(Size),
 }
 
 /// Memory at a register of the address size.
@@ -182,12 +178,9 @@ impl RowSize {
     pub fn bytes(self, opcode: Opcode, prefixes: &Prefixes) -> u8
         ensures { result ≡ row_bytes self opcode prefixes.now }
     {
-        let sizes = prefixes.size_prefixes();
         match self {
             RowSize::Bytes(bytes) => bytes,
-            RowSize::Of(width) => width.class(sizes).width(),
-            RowSize::Named(size) => size.bytes(opcode, sizes),
-            RowSize::FarPointer => 2 + prefixes.v_class().width(),
+            RowSize::Of(size) => size.bytes(opcode, prefixes.size_prefixes()),
         }
     }
 }

@@ -4,7 +4,7 @@ ghost use Rattle.x86_forms.specs.Words.{IsForm};
 ghost use Rattle.x86_operands.specs.Columns.{choose, is_placed, is_prefixed, is_reg, is_rm, is_named, named, opcode_of, plan_of_row};
 
 use crate::letters::{Letters, RowSize};
-use crate::plans::{Fault, Moment, Plan, PrefixChange, Verdict};
+use crate::plans::{Plan, PrefixChange, Verdict};
 use x86_fields::{Mandatory, ModRM, Prefixes};
 use x86_forms::TableRow;
 use x86_opcodes::Opcode;
@@ -69,31 +69,11 @@ pub enum When {
 pub enum Names {
     /// The opcode of the row in the opcode map.
     Own,
-    /// A last byte names it.
-    BySuffix,
     Name(u16),
     /// Those of /0 to /7. Where it has no name the row isn't there.
     ByReg([u16; 8]),
     /// Those of rm 0 to rm 7, likewise.
     ByRm([u16; 8]),
-}
-
-/// What a row has where it is.
-#[derive(Clone, Copy, Drop)]
-pub enum Content {
-    Reads {
-        names: Names,
-        operands: Letters,
-        in_memory: RowSize,
-        in_register: RowSize,
-        change: PrefixChange,
-    },
-    /// A refusal, with the operands whose bytes the row has.
-    Refuses {
-        operands: Letters,
-        fault: Fault,
-        moment: Moment,
-    },
 }
 
 /// With which ModRM bytes a row is.
@@ -104,12 +84,21 @@ pub struct Where {
     pub rm: Rm,
 }
 
-/// A row of a form.
+/// A row of a form: where it is, and what it has there.
 #[derive(Clone, Copy, Drop)]
 pub struct FormRow {
     pub at: Where,
     pub when: When,
-    pub content: Content,
+    pub names: Names,
+    /// The operands. Those of a row that refuses are the ones whose bytes it has.
+    pub operands: Letters,
+    /// The memory size in the memory form.
+    pub in_memory: RowSize,
+    /// The same in the register form, and without ModRM.
+    pub in_register: RowSize,
+    /// What changes in the prefixes of the answer.
+    pub change: PrefixChange,
+    pub verdict: Verdict,
 }
 
 impl Where {
@@ -165,29 +154,25 @@ impl FormRow {
     }
 }
 
-/// What the first row has that is there; `own` is the row in the opcode map.
+/// The first row that is there; `own` is the row in the opcode map.
 pub fn choose(
     rows: &[FormRow],
     own: &TableRow,
     strict: bool,
     prefixes: &Prefixes,
     modrm: ModRM,
-) -> Content
+) -> FormRow
     ensures { result ≡ choose rows.now own.now strict prefixes.now modrm }
 {
     for row in rows {
         if row.at.has(strict, modrm)
             && row.has_prefixes(own, prefixes)
-            && row.content.has_name(modrm)
+            && row.names.has_name(modrm)
         {
-            return row.content;
+            return *row;
         }
     }
-    Content::Refuses {
-        operands: Letters::Zero,
-        fault: Fault::BadOpcode,
-        moment: Moment::AtModRM,
-    }
+    refusal!(Either Reg::Any, Rm::Any; When::Always; Letters::Zero; BadOpcode AtModRM)
 }
 
 /// The opcode of a number in a table.
@@ -199,12 +184,23 @@ pub fn named(number: u16) -> Opcode
 }
 
 impl Names {
+    /// Whether there is a name at a ModRM byte.
+    fn has_name(&self, modrm: ModRM) -> bool
+        ensures { result ≡ is_named self.now modrm }
+    {
+        match self {
+            Names::Own | Names::Name(_) => true,
+            Names::ByReg(names) => names[modrm.reg_field() as usize] != 0,
+            Names::ByRm(names) => names[modrm.rm_field() as usize] != 0,
+        }
+    }
+
+    /// The operation at a ModRM byte.
     fn opcode(&self, own: &TableRow, modrm: ModRM) -> Opcode
         ensures { result ≡ opcode_of self.now own.now modrm }
     {
         match self {
             Names::Own => own.opcode,
-            Names::BySuffix => Opcode::Invalid,
             Names::Name(number) => named(*number),
             Names::ByReg(names) => named(names[modrm.reg_field() as usize]),
             Names::ByRm(names) => named(names[modrm.rm_field() as usize]),
@@ -212,61 +208,23 @@ impl Names {
     }
 }
 
-impl Content {
-    /// Whether the row has a name at a ModRM byte, where it has eight.
-    fn has_name(&self, modrm: ModRM) -> bool
-        ensures { result ≡ is_named self.now modrm }
-    {
-        match self {
-            Content::Reads {
-                names: Names::ByReg(names),
-                ..
-            } => names[modrm.reg_field() as usize] != 0,
-            Content::Reads {
-                names: Names::ByRm(names),
-                ..
-            } => names[modrm.rm_field() as usize] != 0,
-            _ => true,
-        }
-    }
-
+impl FormRow {
     /// The plan at a ModRM byte; `own` is the row in the opcode map.
     pub fn plan(&self, own: &TableRow, prefixes: &Prefixes, modrm: ModRM) -> Plan
         requires { IsForm own.now.form }
         ensures { result ≡ plan_of_row self.now own.now prefixes.now modrm }
     {
-        match self {
-            Content::Reads {
-                names,
-                operands,
-                in_memory,
-                in_register,
-                change,
-            } => Plan {
-                opcode: names.opcode(own, modrm),
-                encodings: operands.encodings(own, prefixes, modrm),
-                size: if modrm.is_memory() {
-                    in_memory.bytes(own.opcode, prefixes)
-                } else {
-                    in_register.bytes(own.opcode, prefixes)
-                },
-                change: *change,
-                verdict: match names {
-                    Names::BySuffix => Verdict::NamedBySuffix,
-                    _ => Verdict::Accepts,
-                },
-            },
-            Content::Refuses {
-                operands,
-                fault,
-                moment,
-            } => Plan {
-                opcode: Opcode::Invalid,
-                encodings: operands.encodings(own, prefixes, modrm),
-                size: 0,
-                change: PrefixChange::Keeps,
-                verdict: Verdict::Refuses(*fault, *moment),
-            },
+        let size = if modrm.is_memory() {
+            self.in_memory
+        } else {
+            self.in_register
+        };
+        Plan {
+            opcode: self.names.opcode(own, modrm),
+            encodings: self.operands.encodings(own, prefixes, modrm),
+            size: size.bytes(own.opcode, prefixes),
+            change: self.change,
+            verdict: self.verdict,
         }
     }
 }

@@ -11,7 +11,7 @@ use crate::letters::Letter::{
     A, At, Destination, E, Emm, G, Gmm, Implied, M, Offset, Source, Sr, U, Umm, X16, Z,
 };
 use crate::letters::Letters::{One, Three, Two, Zero};
-use crate::letters::RowSize::{Bytes, FarPointer, Named, Of};
+use crate::letters::RowSize::{Bytes, Of};
 use crate::plans::{PointerSlot, RegisterSlot};
 use crate::rows::Names::{Name, Own};
 use crate::rows::When::{Always, Opcode, Register0, RexR, RexW, With66, With67};
@@ -49,16 +49,16 @@ pub(crate) const ROWS: &[FormRow; 157] = &[
     read!(Bare Reg::Any, Rm::Any; Always; Own; Two(Z(RegisterSlot::Reg, V), IVQ); Bytes(0); Bytes(0)), // Zv_Ivq_R
     read!(Bare Reg::Any, Rm::Any; Always; Own; One(Z(RegisterSlot::Reg, V)); Bytes(0); Bytes(0)), // Zv_B
     read!(Either Reg::Any, Rm::Any; Always; Own; Two(E(B), G(B)); Bytes(1); Bytes(1)), // Eb_Gb
-    read!(Either Reg::Any, Rm::Any; Always; Own; Two(E(V), G(V)); Of(V); Of(V)), // Ev_Gv
+    read!(Either Reg::Any, Rm::Any; Always; Own; Two(E(V), G(V)); Of(Size::V); Of(Size::V)), // Ev_Gv
     read!(Either Reg::Any, Rm::Any; Always; Own; Two(G(B), E(B)); Bytes(1); Bytes(1)), // Gb_Eb
-    read!(Either Reg::Any, Rm::Any; Always; Own; Two(G(V), E(V)); Of(V); Of(V)), // Gv_Ev
+    read!(Either Reg::Any, Rm::Any; Always; Own; Two(G(V), E(V)); Of(Size::V); Of(Size::V)), // Gv_Ev
     read!(Bare Reg::Any, Rm::Any; Always; Own; Two(A(B), I8); Bytes(0); Bytes(0)), // AL_Ibs
     read!(Bare Reg::Any, Rm::Any; Always; Own; Two(A(V), IV); Bytes(0); Bytes(0)), // AX_Ivd
-    read!(Either Reg::Any, Rm::Any; Always; Own; Two(G(Q), E(D)); Bytes(4); Of(V)), // Gdq_Ed
+    read!(Either Reg::Any, Rm::Any; Always; Own; Two(G(Q), E(D)); Bytes(4); Of(Size::V)), // Gdq_Ed
     read!(Bare Reg::Any, Rm::Any; Always; Own; One(IP); Bytes(8); Bytes(8)), // PushIvs
-    read!(Either Reg::Any, Rm::Any; Always; Own; Three(G(V), E(V), IV); Of(V); Of(V)), // Gv_Ev_Iv
+    read!(Either Reg::Any, Rm::Any; Always; Own; Three(G(V), E(V), IV); Of(Size::V); Of(Size::V)), // Gv_Ev_Iv
     read!(Bare Reg::Any, Rm::Any; Always; Own; One(I8); Bytes(8); Bytes(8)), // PushIbs
-    read!(Either Reg::Any, Rm::Any; Always; Own; Three(G(V), E(V), I8); Of(V); Of(V)), // Gv_Ev_Ib
+    read!(Either Reg::Any, Rm::Any; Always; Own; Three(G(V), E(V), I8); Of(Size::V); Of(Size::V)), // Gv_Ev_Ib
     read!(Bare Reg::Any, Rm::Any; Always; Own; Two(At(PointerSlot::Deref, 7, RegisterClass::Q), Implied(RegisterSlot::Reg, 2, RegisterClass::B)); Bytes(1); Bytes(1)), // Yb_DX
     read!(Bare Reg::Any, Rm::Any; With66; Own; Two(At(PointerSlot::Deref, 7, RegisterClass::Q), Implied(RegisterSlot::Reg, 2, RegisterClass::W)); Bytes(2); Bytes(2)), // Yv_DX
     read!(Bare Reg::Any, Rm::Any; Always; Own; Two(At(PointerSlot::Deref, 7, RegisterClass::Q), Implied(RegisterSlot::Reg, 2, RegisterClass::W)); Bytes(4); Bytes(4)), // Yv_DX
@@ -67,13 +67,13 @@ pub(crate) const ROWS: &[FormRow; 157] = &[
     read!(Bare Reg::Any, Rm::Any; Always; Own; Two(Implied(RegisterSlot::Reg, 2, RegisterClass::W), At(PointerSlot::Deref, 6, RegisterClass::Q)); Bytes(4); Bytes(4)), // DX_Xv
     read!(Bare Reg::Any, Rm::Any; Always; Own; One(I8); Bytes(0); Bytes(0)), // Ibs
     refusal!(Either Reg::Any, Rm::Any; RexR; Zero; BadOperand AfterAddress), // Ew_Sw
-    read!(Either Reg::From(0, 5), Rm::Any; Always; Own; Two(E(D), Sr); Bytes(2); Of(V)), // Ew_Sw
+    read!(Either Reg::From(0, 5), Rm::Any; Always; Own; Two(E(D), Sr); Bytes(2); Of(Size::V)), // Ew_Sw
     refusal!(Either Reg::Any, Rm::Any; Always; Zero; BadOperand AfterAddress), // Ew_Sw
-    read!(Memory Reg::Any, Rm::Any; Always; Own; Two(G(V), M); Of(V); Of(V)), // Gv_M
+    read!(Memory Reg::Any, Rm::Any; Always; Own; Two(G(V), M); Of(Size::V); Of(Size::V)), // Gv_M
     refusal!(Either Reg::Any, Rm::Any; Always; Two(G(V), M); BadOperand AtModRM), // Gv_M
     refusal!(Either Reg::Any, Rm::Any; RexR; Zero; BadOperand AfterAddress), // Sw_Ew
     refusal!(Either Reg::Is(1), Rm::Any; Always; Zero; BadOperand AfterAddress), // Sw_Ew
-    read!(Either Reg::From(0, 5), Rm::Any; Always; Own; Two(Sr, E(W)); Bytes(2); Of(V)), // Sw_Ew
+    read!(Either Reg::From(0, 5), Rm::Any; Always; Own; Two(Sr, E(W)); Bytes(2); Of(Size::V)), // Sw_Ew
     refusal!(Either Reg::Any, Rm::Any; Always; Zero; BadOperand AfterAddress), // Sw_Ew
     read!(Bare Reg::Any, Rm::Any; RexW; Name(429); Zero; Bytes(0); Bytes(0)), // CVT_AA CDQE
     read!(Bare Reg::Any, Rm::Any; With66; Name(427); Zero; Bytes(0); Bytes(0)), // CVT_AA CBW
@@ -81,21 +81,21 @@ pub(crate) const ROWS: &[FormRow; 157] = &[
     read!(Bare Reg::Any, Rm::Any; RexW; Name(440); Zero; Bytes(0); Bytes(0)), // CVT_DA CQO
     read!(Bare Reg::Any, Rm::Any; With66; Name(441); Zero; Bytes(0); Bytes(0)), // CVT_DA CWD
     read!(Bare Reg::Any, Rm::Any; Always; Name(428); Zero; Bytes(0); Bytes(0)), // CVT_DA CDQ
-    read!(Bare Reg::Any, Rm::Any; Always; Own; Zero; Named(Size::Bare); Named(Size::Bare)), // Nothing
+    read!(Bare Reg::Any, Rm::Any; Always; Own; Zero; Of(Size::Bare); Of(Size::Bare)), // Nothing
     read!(Bare Reg::Any, Rm::Any; Always; Own; Zero; Bytes(0); Bytes(0)), // AH
     read!(Bare Reg::Any, Rm::Any; Always; Own; Two(A(B), Offset); Bytes(1); Bytes(1)), // AL_Ob
-    read!(Bare Reg::Any, Rm::Any; Always; Own; Two(A(V), Offset); Of(V); Of(V)), // AX_Ov
+    read!(Bare Reg::Any, Rm::Any; Always; Own; Two(A(V), Offset); Of(Size::V); Of(Size::V)), // AX_Ov
     read!(Bare Reg::Any, Rm::Any; Always; Own; Two(Offset, A(B)); Bytes(1); Bytes(1)), // Ob_AL
-    read!(Bare Reg::Any, Rm::Any; Always; Own; Two(Offset, A(V)); Of(V); Of(V)), // Ov_AX
+    read!(Bare Reg::Any, Rm::Any; Always; Own; Two(Offset, A(V)); Of(Size::V); Of(Size::V)), // Ov_AX
     read!(Bare Reg::Any, Rm::Any; With67; Own; Two(At(PointerSlot::DerefEdi, 7, RegisterClass::D), At(PointerSlot::DerefEsi, 6, RegisterClass::D)); Bytes(1); Bytes(1)), // Yb_Xb
     read!(Bare Reg::Any, Rm::Any; Always; Own; Two(At(PointerSlot::DerefRdi, 7, RegisterClass::Q), At(PointerSlot::DerefRsi, 6, RegisterClass::Q)); Bytes(1); Bytes(1)), // Yb_Xb
-    read!(Bare Reg::Any, Rm::Any; With67; Own; Two(At(PointerSlot::DerefEdi, 7, RegisterClass::D), At(PointerSlot::DerefEsi, 6, RegisterClass::D)); Of(V); Of(V)), // Yv_Xv
-    read!(Bare Reg::Any, Rm::Any; Always; Own; Two(At(PointerSlot::DerefRdi, 7, RegisterClass::Q), At(PointerSlot::DerefRsi, 6, RegisterClass::Q)); Of(V); Of(V)), // Yv_Xv
+    read!(Bare Reg::Any, Rm::Any; With67; Own; Two(At(PointerSlot::DerefEdi, 7, RegisterClass::D), At(PointerSlot::DerefEsi, 6, RegisterClass::D)); Of(Size::V); Of(Size::V)), // Yv_Xv
+    read!(Bare Reg::Any, Rm::Any; Always; Own; Two(At(PointerSlot::DerefRdi, 7, RegisterClass::Q), At(PointerSlot::DerefRsi, 6, RegisterClass::Q)); Of(Size::V); Of(Size::V)), // Yv_Xv
     read!(Bare Reg::Any, Rm::Any; Always; Own; Two(Destination, A(B)); Bytes(1); Bytes(1); SetsEs), // Yb_AL
-    read!(Bare Reg::Any, Rm::Any; Always; Own; Two(Destination, A(V)); Of(V); Of(V); SetsEs), // Yv_AX
+    read!(Bare Reg::Any, Rm::Any; Always; Own; Two(Destination, A(V)); Of(Size::V); Of(Size::V); SetsEs), // Yv_AX
     read!(Bare Reg::Any, Rm::Any; Always; Own; Two(A(B), Source); Bytes(1); Bytes(1)), // AL_Xb
-    read!(Bare Reg::Any, Rm::Any; Always; Own; Two(A(V), Source); Of(V); Of(V)), // AX_Xv
-    read!(Bare Reg::Any, Rm::Any; Always; Own; One(U16); Named(Size::Return); Named(Size::Return)), // Iw
+    read!(Bare Reg::Any, Rm::Any; Always; Own; Two(A(V), Source); Of(Size::V); Of(Size::V)), // AX_Xv
+    read!(Bare Reg::Any, Rm::Any; Always; Own; One(U16); Of(Size::Return); Of(Size::Return)), // Iw
     read!(Bare Reg::Any, Rm::Any; Always; Own; Two(X16, U8); Bytes(8); Bytes(8)), // Iw_Ib
     read!(Bare Reg::Any, Rm::Any; Always; Own; One(THREE); Bytes(0); Bytes(0)), // I_3
     read!(Bare Reg::Any, Rm::Any; Always; Own; One(U8); Bytes(0); Bytes(0)), // Ib
@@ -108,96 +108,96 @@ pub(crate) const ROWS: &[FormRow; 157] = &[
     read!(Bare Reg::Any, Rm::Any; Always; Own; Two(A(Vd), U8); Bytes(0); Bytes(0)), // AX_Ib
     read!(Bare Reg::Any, Rm::Any; Always; Own; Two(U8, A(B)); Bytes(0); Bytes(0)), // Ib_AL
     read!(Bare Reg::Any, Rm::Any; Always; Own; Two(U8, A(Vd)); Bytes(0); Bytes(0)), // Ib_AX
-    read!(Bare Reg::Any, Rm::Any; Always; Own; One(I32); Named(Size::Call); Named(Size::Call)), // Jvds
+    read!(Bare Reg::Any, Rm::Any; Always; Own; One(I32); Of(Size::Call); Of(Size::Call)), // Jvds
     read!(Bare Reg::Any, Rm::Any; Always; Own; Two(A(B), Implied(RegisterSlot::Rm, 2, RegisterClass::W)); Bytes(0); Bytes(0)), // AL_DX
     read!(Bare Reg::Any, Rm::Any; Always; Own; Two(A(Vd), Implied(RegisterSlot::Rm, 2, RegisterClass::W)); Bytes(0); Bytes(0)), // AX_DX
     read!(Bare Reg::Any, Rm::Any; Always; Own; Two(Implied(RegisterSlot::Rm, 2, RegisterClass::W), A(B)); Bytes(0); Bytes(0)), // DX_AL
     read!(Bare Reg::Any, Rm::Any; Always; Own; Two(Implied(RegisterSlot::Rm, 2, RegisterClass::W), A(Vd)); Bytes(0); Bytes(0)), // DX_AX
     read!(Bare Reg::Any, Rm::Any; Always; Own; One(UNSIGNED_ONE); Bytes(0); Bytes(0)), // I_1
-    read!(Either Reg::Any, Rm::Any; Always; Own; Two(G(V), E(V)); Bytes(2); Of(V)), // Gv_Ew_LAR
-    read!(Either Reg::Any, Rm::Any; Always; Own; Two(G(V), E(Vd)); Bytes(2); Of(V)), // Gv_Ew_LSL
-    read!(Either Reg::Any, Rm::Any; Always; Own; One(E(V)); Of(V); Of(V)), // Ev
+    read!(Either Reg::Any, Rm::Any; Always; Own; Two(G(V), E(V)); Bytes(2); Of(Size::V)), // Gv_Ew_LAR
+    read!(Either Reg::Any, Rm::Any; Always; Own; Two(G(V), E(Vd)); Bytes(2); Of(Size::V)), // Gv_Ew_LSL
+    read!(Either Reg::Any, Rm::Any; Always; Own; One(E(V)); Of(Size::V); Of(Size::V)), // Ev
     read!(Either Reg::Any, Rm::Any; Always; Own; One(E(B)); Bytes(1); Bytes(1)), // Eb_R0
     read!(Bare Reg::Any, Rm::Any; Always; Own; One(Implied(RegisterSlot::Reg, 4, RegisterClass::S)); Bytes(8); Bytes(8)), // FS
-    read!(Either Reg::Any, Rm::Any; Always; Own; Three(E(V), G(V), I8); Of(V); Of(V)), // Ev_Gv_Ib
-    read!(Either Reg::Any, Rm::Any; Always; Own; Three(E(V), G(V), Implied(RegisterSlot::Third, 1, RegisterClass::B)); Of(V); Of(V)), // Ev_Gv_CL
+    read!(Either Reg::Any, Rm::Any; Always; Own; Three(E(V), G(V), I8); Of(Size::V); Of(Size::V)), // Ev_Gv_Ib
+    read!(Either Reg::Any, Rm::Any; Always; Own; Three(E(V), G(V), Implied(RegisterSlot::Third, 1, RegisterClass::B)); Of(Size::V); Of(Size::V)), // Ev_Gv_CL
     read!(Bare Reg::Any, Rm::Any; Always; Own; One(Implied(RegisterSlot::Reg, 5, RegisterClass::S)); Bytes(8); Bytes(8)), // GS
-    read!(Memory Reg::Any, Rm::Any; Opcode(128); Own; Two(G(V), M); FarPointer; FarPointer), // INV_Gv_M LFS
-    read!(Memory Reg::Any, Rm::Any; Opcode(129); Own; Two(G(V), M); FarPointer; FarPointer), // INV_Gv_M LGS
-    read!(Memory Reg::Any, Rm::Any; Opcode(127); Own; Two(G(V), M); FarPointer; FarPointer), // INV_Gv_M LSS
+    read!(Memory Reg::Any, Rm::Any; Opcode(128); Own; Two(G(V), M); Of(Size::FarPointer); Of(Size::FarPointer)), // INV_Gv_M LFS
+    read!(Memory Reg::Any, Rm::Any; Opcode(129); Own; Two(G(V), M); Of(Size::FarPointer); Of(Size::FarPointer)), // INV_Gv_M LGS
+    read!(Memory Reg::Any, Rm::Any; Opcode(127); Own; Two(G(V), M); Of(Size::FarPointer); Of(Size::FarPointer)), // INV_Gv_M LSS
     read!(Memory Reg::Any, Rm::Any; Opcode(391); Own; Two(G(Q), M); Bytes(64); Bytes(64)), // INV_Gv_M ENQCMD
     read!(Memory Reg::Any, Rm::Any; Opcode(389); Own; Two(G(Q), M); Bytes(64); Bytes(64)), // INV_Gv_M ENQCMDS
     read!(Memory Reg::Any, Rm::Any; Always; Own; Two(G(Q), M); Bytes(16); Bytes(16)), // INV_Gv_M
     refusal!(Either Reg::Any, Rm::Any; Always; Zero; BadOperand AtModRM), // INV_Gv_M
     read!(Either Reg::Any, Rm::Any; Always; Own; Two(G(V), E(B)); Bytes(1); Bytes(0)), // Gv_Eb
     read!(Either Reg::Any, Rm::Any; Always; Own; Two(G(V), E(W)); Bytes(2); Bytes(0)), // Gv_Ew
-    read!(Either Reg::Any, Rm::Any; Always; Own; Two(G(D), E(D)); Bytes(4); Of(V)), // Gd_Ed
-    read!(Either Reg::Any, Rm::Any; Always; Own; Two(Gmm, Emm); Named(Size::Unpack); Of(V)), // G_E_mm
-    read!(Either Reg::Any, Rm::Any; Always; Own; Two(G(X), E(X)); Named(Size::Duplicate); Of(V)), // G_E_xmm
-    read!(Either Reg::Any, Rm::Any; Always; Own; Two(E(X), G(X)); Bytes(16); Of(V)), // E_G_xmm
-    read!(Memory Reg::Any, Rm::Any; Always; Own; Two(M, G(X)); Named(Size::Stream); Named(Size::Stream)), // M_G_xmm
+    read!(Either Reg::Any, Rm::Any; Always; Own; Two(G(D), E(D)); Bytes(4); Of(Size::V)), // Gd_Ed
+    read!(Either Reg::Any, Rm::Any; Always; Own; Two(Gmm, Emm); Of(Size::Unpack); Of(Size::V)), // G_E_mm
+    read!(Either Reg::Any, Rm::Any; Always; Own; Two(G(X), E(X)); Of(Size::Duplicate); Of(Size::V)), // G_E_xmm
+    read!(Either Reg::Any, Rm::Any; Always; Own; Two(E(X), G(X)); Bytes(16); Of(Size::V)), // E_G_xmm
+    read!(Memory Reg::Any, Rm::Any; Always; Own; Two(M, G(X)); Of(Size::Stream); Of(Size::Stream)), // M_G_xmm
     refusal!(Either Reg::Any, Rm::Any; Always; Two(M, G(X)); BadOperand AtModRM), // M_G_xmm
-    read!(Either Reg::Any, Rm::Any; Always; Own; Two(G(X), Emm); Bytes(8); Of(V)), // G_xmm_E_mm
-    read!(Either Reg::Any, Rm::Any; Always; Own; Two(Gmm, E(X)); Bytes(16); Of(V)), // G_mm_E_xmm
+    read!(Either Reg::Any, Rm::Any; Always; Own; Two(G(X), Emm); Bytes(8); Of(Size::V)), // G_xmm_E_mm
+    read!(Either Reg::Any, Rm::Any; Always; Own; Two(Gmm, E(X)); Bytes(16); Of(Size::V)), // G_mm_E_xmm
     refusal!(Register Reg::Any, Rm::Any; Opcode(237); Two(G(X), E(X)); BadOperand AtModRM), // PMOVX_G_E_xmm MOVLPD
     refusal!(Register Reg::Any, Rm::Any; Opcode(238); Two(G(X), E(X)); BadOperand AtModRM), // PMOVX_G_E_xmm MOVHPD
-    read!(Either Reg::Any, Rm::Any; Always; Own; Two(G(X), E(X)); Named(Size::Extend); Of(V)), // PMOVX_G_E_xmm
-    read!(Register Reg::Any, Rm::Any; Always; Own; Two(G(D), U(X)); Of(V); Of(V)), // Gd_U_xmm
+    read!(Either Reg::Any, Rm::Any; Always; Own; Two(G(X), E(X)); Of(Size::Extend); Of(Size::V)), // PMOVX_G_E_xmm
+    read!(Register Reg::Any, Rm::Any; Always; Own; Two(G(D), U(X)); Of(Size::V); Of(Size::V)), // Gd_U_xmm
     refusal!(Either Reg::Any, Rm::Any; Always; Two(G(D), U(X)); BadOperand AfterAddress), // Gd_U_xmm
-    read!(Either Reg::Any, Rm::Any; Always; Own; Two(Gmm, E(Dq)); Of(V); Of(V)), // G_mm_Edq
-    read!(Either Reg::Any, Rm::Any; Always; Own; Two(Gmm, Emm); Bytes(8); Of(V)), // G_mm_E
+    read!(Either Reg::Any, Rm::Any; Always; Own; Two(Gmm, E(Dq)); Of(Size::V); Of(Size::V)), // G_mm_Edq
+    read!(Either Reg::Any, Rm::Any; Always; Own; Two(Gmm, Emm); Bytes(8); Of(Size::V)), // G_mm_E
     read!(Either Reg::Any, Rm::Any; Always; Own; Three(Gmm, Emm, I8); Bytes(8); Bytes(0)), // G_E_mm_Ib
-    read!(Either Reg::Any, Rm::Any; Always; Own; Two(E(Q), G(Q)); Bytes(8); Of(V)), // E_G_q
-    read!(Either Reg::Any, Rm::Any; Always; Own; Two(G(Q), E(Q)); Bytes(8); Of(V)), // G_E_q
-    read!(Either Reg::Any, Rm::Any; Always; Own; Two(E(Dq), Gmm); Of(Dq); Of(V)), // Edq_G_mm
-    read!(Either Reg::Any, Rm::Any; Always; Own; Two(Emm, Gmm); Bytes(8); Of(V)), // E_G_mm
-    read!(Either Reg::Any, Rm::Any; Always; Own; Three(G(X), E(X), I8); Named(Size::Scalar); Of(V)), // G_E_xmm_Ib
-    read!(Memory Reg::Any, Rm::Any; Always; Own; Two(M, G(Dq)); Of(Dq); Of(Dq)), // Mdq_Gdq
+    read!(Either Reg::Any, Rm::Any; Always; Own; Two(E(Q), G(Q)); Bytes(8); Of(Size::V)), // E_G_q
+    read!(Either Reg::Any, Rm::Any; Always; Own; Two(G(Q), E(Q)); Bytes(8); Of(Size::V)), // G_E_q
+    read!(Either Reg::Any, Rm::Any; Always; Own; Two(E(Dq), Gmm); Of(Size::Dq); Of(Size::V)), // Edq_G_mm
+    read!(Either Reg::Any, Rm::Any; Always; Own; Two(Emm, Gmm); Bytes(8); Of(Size::V)), // E_G_mm
+    read!(Either Reg::Any, Rm::Any; Always; Own; Three(G(X), E(X), I8); Of(Size::Scalar); Of(Size::V)), // G_E_xmm_Ib
+    read!(Memory Reg::Any, Rm::Any; Always; Own; Two(M, G(Dq)); Of(Size::Dq); Of(Size::Dq)), // Mdq_Gdq
     refusal!(Either Reg::Any, Rm::Any; Always; Two(M, G(Dq)); BadOperand AtModRM), // Mdq_Gdq
-    read!(Either Reg::Any, Rm::Any; Always; Own; Three(Gmm, E(D), I8); Bytes(2); Of(V)), // G_mm_Ew_Ib
-    read!(Register Reg::Any, Rm::Any; Always; Own; Three(G(D), Umm, U8); Of(V); Of(V)), // Rv_Gmm_Ib
+    read!(Either Reg::Any, Rm::Any; Always; Own; Three(Gmm, E(D), I8); Bytes(2); Of(Size::V)), // G_mm_Ew_Ib
+    read!(Register Reg::Any, Rm::Any; Always; Own; Three(G(D), Umm, U8); Of(Size::V); Of(Size::V)), // Rv_Gmm_Ib
     refusal!(Either Reg::Any, Rm::Any; Always; Three(G(D), Umm, U8); BadOperand AfterSuffix), // Rv_Gmm_Ib
-    read!(Register Reg::Any, Rm::Any; Always; Own; Two(G(D), Umm); Of(V); Of(V)), // G_U_mm
+    read!(Register Reg::Any, Rm::Any; Always; Own; Two(G(D), Umm); Of(Size::V); Of(Size::V)), // G_U_mm
     refusal!(Either Reg::Any, Rm::Any; Always; Two(G(D), Umm); BadOperand AfterAddress), // G_U_mm
     read!(Memory Reg::Any, Rm::Any; Always; Own; Two(M, Gmm); Bytes(8); Bytes(8)), // G_Mq_mm
     refusal!(Either Reg::Any, Rm::Any; Always; Two(M, Gmm); BadOperand AtModRM), // G_Mq_mm
     read!(Register Reg::Any, Rm::Any; Always; Own; Two(Gmm, Umm); Bytes(8); Bytes(8)), // G_mm_U_mm
     refusal!(Either Reg::Any, Rm::Any; Always; Two(Gmm, Umm); BadOperand AfterAddress), // G_mm_U_mm
-    read!(Either Reg::Any, Rm::Any; Always; Own; Two(G(X), E(Dq)); Of(V); Of(V)), // G_xmm_Edq
-    read!(Register Reg::Any, Rm::Any; Always; Own; Two(G(X), U(X)); Of(V); Of(V)), // G_U_xmm
+    read!(Either Reg::Any, Rm::Any; Always; Own; Two(G(X), E(Dq)); Of(Size::V); Of(Size::V)), // G_xmm_Edq
+    read!(Register Reg::Any, Rm::Any; Always; Own; Two(G(X), U(X)); Of(Size::V); Of(Size::V)), // G_U_xmm
     refusal!(Either Reg::Any, Rm::Any; Always; Two(G(X), U(X)); BadOperand AfterAddress), // G_U_xmm
-    read!(Either Reg::Any, Rm::Any; RexW; Name(220); Two(E(Dq), G(X)); Of(Dq); Of(V)), // Edq_G_xmm MOVQ
-    read!(Either Reg::Any, Rm::Any; Always; Own; Two(E(Dq), G(X)); Of(Dq); Of(V)), // Edq_G_xmm
-    read!(Either Reg::Any, Rm::Any; Always; Own; Three(G(X), E(D), U8); Bytes(2); Of(V)), // G_xmm_Ew_Ib
-    read!(Register Reg::Any, Rm::Any; Always; Own; Three(G(D), U(X), U8); Of(V); Of(V)), // G_U_xmm_Ub
+    read!(Either Reg::Any, Rm::Any; RexW; Name(220); Two(E(Dq), G(X)); Of(Size::Dq); Of(Size::V)), // Edq_G_xmm MOVQ
+    read!(Either Reg::Any, Rm::Any; Always; Own; Two(E(Dq), G(X)); Of(Size::Dq); Of(Size::V)), // Edq_G_xmm
+    read!(Either Reg::Any, Rm::Any; Always; Own; Three(G(X), E(D), U8); Bytes(2); Of(Size::V)), // G_xmm_Ew_Ib
+    read!(Register Reg::Any, Rm::Any; Always; Own; Three(G(D), U(X), U8); Of(Size::V); Of(Size::V)), // G_U_xmm_Ub
     refusal!(Either Reg::Any, Rm::Any; Always; Three(G(D), U(X), U8); BadOperand AfterAddress), // G_U_xmm_Ub
-    read!(Either Reg::Any, Rm::Any; Always; Own; Two(E(X), G(X)); Bytes(8); Of(V)), // PMOVX_E_G_xmm
+    read!(Either Reg::Any, Rm::Any; Always; Own; Two(E(X), G(X)); Bytes(8); Of(Size::V)), // PMOVX_E_G_xmm
     read!(Register Reg::Any, Rm::Any; Always; Own; Two(G(X), U(X)); Bytes(16); Bytes(16)), // MASKMOVDQU
     refusal!(Either Reg::Any, Rm::Any; Always; Two(G(X), U(X)); BadOperand AfterAddress), // MASKMOVDQU
-    read!(Either Reg::Any, Rm::Any; Always; Own; Two(G(X), E(X)); Bytes(4); Of(V)), // G_Ed_xmm
-    read!(Either Reg::Any, Rm::Any; Always; Own; Two(E(X), G(X)); Bytes(4); Of(V)), // Ed_G_xmm
-    read!(Either Reg::Any, Rm::Any; Always; Own; Two(G(V), E(X)); Bytes(4); Of(V)), // Gv_E_xmm
-    read!(Either Reg::Any, Rm::Any; Always; Own; Two(G(X), E(X)); Bytes(8); Of(V)), // MOVQ_f30f
-    read!(Register Reg::Any, Rm::Any; Always; Own; Two(G(X), Umm); Of(V); Of(V)), // G_xmm_U_mm
+    read!(Either Reg::Any, Rm::Any; Always; Own; Two(G(X), E(X)); Bytes(4); Of(Size::V)), // G_Ed_xmm
+    read!(Either Reg::Any, Rm::Any; Always; Own; Two(E(X), G(X)); Bytes(4); Of(Size::V)), // Ed_G_xmm
+    read!(Either Reg::Any, Rm::Any; Always; Own; Two(G(V), E(X)); Bytes(4); Of(Size::V)), // Gv_E_xmm
+    read!(Either Reg::Any, Rm::Any; Always; Own; Two(G(X), E(X)); Bytes(8); Of(Size::V)), // MOVQ_f30f
+    read!(Register Reg::Any, Rm::Any; Always; Own; Two(G(X), Umm); Of(Size::V); Of(Size::V)), // G_xmm_U_mm
     refusal!(Either Reg::Any, Rm::Any; Always; Two(G(X), Umm); BadOperand AfterAddress), // G_xmm_U_mm
-    read!(Either Reg::Any, Rm::Any; Always; Own; Two(G(V), E(X)); Bytes(8); Of(V)), // Gdq_Eq_xmm
-    read!(Register Reg::Any, Rm::Any; Always; Own; Two(Gmm, U(X)); Of(V); Of(V)), // G_mm_U_xmm
+    read!(Either Reg::Any, Rm::Any; Always; Own; Two(G(V), E(X)); Bytes(8); Of(Size::V)), // Gdq_Eq_xmm
+    read!(Register Reg::Any, Rm::Any; Always; Own; Two(Gmm, U(X)); Of(Size::V); Of(Size::V)), // G_mm_U_xmm
     refusal!(Either Reg::Any, Rm::Any; Always; Two(Gmm, U(X)); BadOperand AfterAddress), // G_mm_U_xmm
     read!(Memory Reg::Any, Rm::Any; Always; Own; Two(G(X), M); Bytes(16); Bytes(16)), // G_M_xmm
     refusal!(Either Reg::Any, Rm::Any; Always; Two(G(X), M); BadOperand AtModRM), // G_M_xmm
-    read!(Memory Reg::Any, Rm::Any; Always; Own; Two(M, G(V)); Of(V); Of(V)), // M_Gv
+    read!(Memory Reg::Any, Rm::Any; Always; Own; Two(M, G(V)); Of(Size::V); Of(Size::V)), // M_Gv
     refusal!(Either Reg::Any, Rm::Any; Always; Two(M, G(V)); BadOperand AtModRM), // M_Gv
     read!(Memory Reg::Any, Rm::Any; With67; Own; Two(G(D), M); Bytes(64); Bytes(64)), // MOVDIR64B
     read!(Memory Reg::Any, Rm::Any; Always; Own; Two(G(Q), M); Bytes(64); Bytes(64)), // MOVDIR64B
     refusal!(Either Reg::Any, Rm::Any; Always; Zero; BadOperand AtModRM), // MOVDIR64B
-    read!(Either Reg::Any, Rm::Any; Always; Own; Two(G(Dq), E(V)); Bytes(4); Of(V)), // Gdq_Ev
-    read!(Either Reg::Any, Rm::Any; Always; Own; Three(G(X), E(X), U8); Bytes(16); Of(V)), // G_E_xmm_Ub
-    read!(Either Reg::Any, Rm::Any; Always; Own; Three(E(V), G(X), U8); Named(Size::Extract); Named(Size::Extract)), // Ev_G_xmm_Ib
-    read!(Either Reg::Any, Rm::Any; RexW; Name(577); Three(E(V), G(X), U8); Of(Dq); Of(Dq)), // Pextr_dq PEXTRQ
-    read!(Either Reg::Any, Rm::Any; Always; Name(411); Three(E(V), G(X), U8); Of(Dq); Of(Dq)), // Pextr_dq PEXTRD
-    read!(Either Reg::Any, Rm::Any; Always; Own; Three(G(X), E(X), U8); Named(Size::Insert); Of(V)), // G_Ev_xmm_Ib
-    read!(Either Reg::Any, Rm::Any; RexW; Name(599); Three(G(X), E(X), U8); Of(Dq); Of(V)), // Pinsr_dq PINSRQ
-    read!(Either Reg::Any, Rm::Any; Always; Name(414); Three(G(X), E(X), U8); Of(Dq); Of(V)), // Pinsr_dq PINSRD
+    read!(Either Reg::Any, Rm::Any; Always; Own; Two(G(Dq), E(V)); Bytes(4); Of(Size::V)), // Gdq_Ev
+    read!(Either Reg::Any, Rm::Any; Always; Own; Three(G(X), E(X), U8); Bytes(16); Of(Size::V)), // G_E_xmm_Ub
+    read!(Either Reg::Any, Rm::Any; Always; Own; Three(E(V), G(X), U8); Of(Size::Extract); Of(Size::Extract)), // Ev_G_xmm_Ib
+    read!(Either Reg::Any, Rm::Any; RexW; Name(577); Three(E(V), G(X), U8); Of(Size::Dq); Of(Size::Dq)), // Pextr_dq PEXTRQ
+    read!(Either Reg::Any, Rm::Any; Always; Name(411); Three(E(V), G(X), U8); Of(Size::Dq); Of(Size::Dq)), // Pextr_dq PEXTRD
+    read!(Either Reg::Any, Rm::Any; Always; Own; Three(G(X), E(X), U8); Of(Size::Insert); Of(Size::V)), // G_Ev_xmm_Ib
+    read!(Either Reg::Any, Rm::Any; RexW; Name(599); Three(G(X), E(X), U8); Of(Size::Dq); Of(Size::V)), // Pinsr_dq PINSRQ
+    read!(Either Reg::Any, Rm::Any; Always; Name(414); Three(G(X), E(X), U8); Of(Size::Dq); Of(Size::V)), // Pinsr_dq PINSRD
 ];
 
 /// The first row of each ordinal, and the one after its last. A form that carries a number has eight ordinals.

@@ -2,7 +2,7 @@
 -- operand.
 use Rattle.std.proofs.Common.{◌≡◌, ℕ, ◌||◌, Bool, if◌then◌else◌, true, false, Option, Some, None, refl, ◌∙◌, arith}
 use Rattle.std.specs.List.{list_all, list_any}
-use Rattle.std.proofs.lemmas.Bool.{and_parts, or_right}
+use Rattle.std.proofs.lemmas.Bool.{and_parts}
 use Rattle.x86_fields.specs.declared.prefixes.Prefixes.{Prefixes}
 use Rattle.x86_fields.specs.declared.rex.PrefixRex.{PrefixRex}
 use Rattle.x86_fields.specs.ModRM.{reg_field, is_memory}
@@ -20,15 +20,14 @@ use Rattle.x86_layout.specs.Tightening.Tighten.{bits_in}
 use Rattle.x86_operands.specs.declared.encodings.Last.{Last}
 use Rattle.x86_operands.specs.declared.letters.Letter.{Letter}
 use Rattle.x86_operands.specs.declared.letters.Letters.{Letters}
-use Rattle.x86_operands.specs.declared.rows.Content.{Content}
-use Rattle.x86_operands.specs.declared.rows.Content.TheVariants.{Reads, Refuses}
+use Rattle.x86_operands.specs.declared.rows.FormRow.{FormRow}
 use Rattle.x86_operands.specs.declared.letters.Letter.TheVariants as letter
 use Rattle.x86_operands.specs.declared.letters.Letters.TheVariants as letters
-use Rattle.x86_operands.specs.Columns.{choose, letter_encoding, operand_encodings, plan_of_row, verdict_of}
+use Rattle.x86_operands.specs.Columns.{choose, letter_encoding, operand_encodings, plan_of_row}
 use Rattle.x86_operands.specs.Encodings.{last_encoding}
 use Rattle.x86_operands.specs.Rows.{form_rows}
 use Rattle.x86_operands.proofs.PlainLemmas as form_facts
-use Rattle.x86_operands.proofs.ContentLemmas.{SamePrefixes, no_rm_names, in_memory, is_memory_letter, letters_list, rm_free_letter, first_in_memory, rows_alike}
+use Rattle.x86_operands.proofs.ColumnLemmas.{SamePrefixes, no_rm_names, in_memory, is_memory_letter, letters_list, rm_free_letter, first_in_memory, rows_alike}
 use Rattle.x86_groups.specs.Groups.{is_f3_alone, group_fault, group_plan, group_record, record_of}
 use Rattle.x86_groups.specs.Rows.{group_rows}
 use Rattle.x86_groups.proofs.GroupLemmas as group_facts
@@ -104,18 +103,17 @@ module _ (own : TableRow) (p : Prefixes) (m : ℕ) where
   letters_are (letters.Three a b c) = rw (letter_is a, letter_is b, letter_is c) refl
   letters_are (letters.Four a b c d) = rw (letter_is a, letter_is b, letter_is c, letter_is d) refl
 
-  content_writes : (content : Content) → in_memory content ≡ true → writes (plan_of_row content own p m) ≡ true
-  content_writes (Reads names operands memory register change) h =
-      let x = and_parts (no_rm_names names) _ h in
-      let y = and_parts (list_all rm_free_letter (letters_list operands)) _ x.1 in
-      or_right (is_refusal (verdict_of names)) _ (letters_are operands ∙ y.1)
-  content_writes (Refuses operands fault moment) h = refl
+  chosen_writes : (chosen : FormRow) → in_memory chosen ≡ true → writes (plan_of_row chosen own p m) ≡ true
+  chosen_writes chosen h =
+      let x = and_parts (no_rm_names chosen.names) _ h in
+      let y = and_parts (list_all rm_free_letter (letters_list chosen.operands)) _ x.1 in
+      rw (letters_are chosen.operands) y.1
 
 module _ (strict : Bool) (row : TableRow) (p : Prefixes) (m : ℕ) (mm : is_memory m ≡ true) where
   by_kind : (group : Bool) → (By strict row group p).modrm ≡ EitherForm → writes ((By strict row group p).plan m) ≡ true
   unfolding group_record group_plan form_record form_plan
-  by_kind true usage = content_writes row p m (choose (group_rows row.form) row strict p m) (first_in_memory (group_rows row.form) row strict p m (group_facts.rows_keep_reg row.form) mm)
-  by_kind false usage = content_writes row p m (choose (form_rows row.form) row false p m) (first_in_memory (form_rows row.form) row false p m (form_facts.rows_keep_reg row.form usage) mm)
+  by_kind true usage = chosen_writes row p m (choose (group_rows row.form) row strict p m) (first_in_memory (group_rows row.form) row strict p m (group_facts.rows_keep_reg row.form) mm)
+  by_kind false usage = chosen_writes row p m (choose (form_rows row.form) row false p m) (first_in_memory (form_rows row.form) row false p m (form_facts.rows_keep_reg row.form usage) mm)
 
   pub row_writes : (record_of strict row p).modrm ≡ EitherForm → is_refusal ((record_of strict row p).plan m).verdict ≡ false → list_any is_modrm_encoding (list_of ((record_of strict row p).plan m).encodings) ≡ true
   row_writes usage accepted = cc (by_kind (is_group row.form) usage, accepted)

@@ -1,32 +1,35 @@
--- What the first row has: that its plan passes the tests of plans, and what it goes by in the memory form.
+-- What the columns of the first row have: that its plan passes the tests of plans, and what it goes by in the memory form.
 use Rattle.std.proofs.Common.{◌&&◌, ◌≡◌, inl, inr, ◌≤◌, ℕ, nat_lt, Bool, true, false, not, ◌||◌, List, [], ◌∷◌, map, refl, sym, ap, ◌∙◌, arith, true≢false, ◌≢◌, if◌then◌else◌, rules}
 use Rattle.std.specs.List.{list_all, list_any}
 use Rattle.std.proofs.lemmas.Bool.{and_parts, or_cases, and_left}
 use Rattle.std.proofs.lemmas.Bool.Decides.{nat_tests}
 use Rattle.x86_fields.specs.Pieces.{total}
 use Rattle.x86_operands.specs.Vocabulary.{Prefixes, Width, Last, Size, TableRow, BadOpcode, AtModRM, reg_field, is_memory, class_of, RegisterClass, Fault, Incomplete, Moment, Verdict, Refuses, Plan, PrefixChange, OperandEncodings, width_of, has_r, has_w, repnz, rep}
-use Rattle.x86_operands.specs.RowVocabulary.{Letter, Letters, RowSize, Bytes, Named, FarPointer, Names, Content, Reads, Refuses, FormRow, Place, Register, Reg, When, Rm, ByRm}
+use Rattle.x86_operands.specs.RowVocabulary.{Letter, Letters, RowSize, Bytes, Of, Names, FormRow, Place, Register, Reg, When, Rm, ByRm}
+use Rattle.x86_operands.specs.Words.{otherwise}
+use Rattle.x86_operands.specs.Plans.{is_refusal}
 use Rattle.x86_operands.specs.declared.encodings.Last.TheVariants as last
+use Rattle.x86_operands.specs.declared.encodings.Size.TheVariants as size
 use Rattle.x86_operands.specs.declared.letters.Letter.TheVariants as letter
 use Rattle.x86_operands.specs.declared.letters.Letters.TheVariants as letters
 use Rattle.x86_operands.specs.Asks.{immediate_width, immediates_width}
 use Rattle.x86_operands.specs.Encodings.{last_encoding, size_bytes}
-use Rattle.x86_operands.specs.Columns.{choose, letter_encoding, operand_encodings, row_bytes, verdict_of, opcode_of, plan_of_row, is_there, is_placed, is_reg, is_rm, is_prefixed, is_named}
+use Rattle.x86_operands.specs.Columns.{choose, letter_encoding, operand_encodings, row_bytes, opcode_of, plan_of_row, is_there, is_placed, is_reg, is_rm, is_prefixed, is_named}
 use Rattle.x86_opcodes.specs.declared.Opcode.{Opcode}
 use Rattle.x86_operands.specs.declared.rows.Rm.TheVariants as rms
 use Rattle.x86_operands.specs.declared.rows.When.TheVariants as when
 
 -- ---- what each row has, the first has
 
-if_has : (P : Content → Type 0) (b : Bool) (x y : Content) → (b ≡ true → P x) → P y → P (if b then x else y)
+if_has : (P : FormRow → Type 0) (b : Bool) (x y : FormRow) → (b ≡ true → P x) → P y → P (if b then x else y)
 if_has P true x y f g = f refl
 if_has P false x y f g = g
 
-pub chosen_has : (P : Content → Type 0) (test : FormRow → Bool) (own : TableRow) (strict : Bool) (p : Prefixes) (m : ℕ) → P (Refuses letters.Zero BadOpcode AtModRM) → ((row : FormRow) → test row ≡ true → is_there row own strict p m ≡ true → P row.content) → (rows : List FormRow) → list_all test rows ≡ true → P (choose rows own strict p m)
+pub chosen_has : (P : FormRow → Type 0) (test : FormRow → Bool) (own : TableRow) (strict : Bool) (p : Prefixes) (m : ℕ) → P (otherwise BadOpcode AtModRM) → ((row : FormRow) → test row ≡ true → is_there row own strict p m ≡ true → P row) → (rows : List FormRow) → list_all test rows ≡ true → P (choose rows own strict p m)
 chosen_has P test own strict p m blank each [] h = blank
 chosen_has P test own strict p m blank each (row ∷ rest) h =
     let parts = and_parts (test row) (list_all test rest) h in
-    if_has P (is_there row own strict p m) row.content (choose rest own strict p m) (λ e. each row parts.0 e) (chosen_has P test own strict p m blank each rest parts.1)
+    if_has P (is_there row own strict p m) row (choose rest own strict p m) (λ e. each row parts.0 e) (chosen_has P test own strict p m blank each rest parts.1)
 
 -- ---- rows that are there alike are chosen alike
 
@@ -71,13 +74,9 @@ abbrev pub no_rm_names : Names → Bool
 no_rm_names (ByRm names) = false
 no_rm_names names = true
 
-abbrev pub no_rm_content : Content → Bool
-no_rm_content (Reads names operands memory register change) = no_rm_names names
-no_rm_content (Refuses operands fault moment) = true
-
 -- a row of the register form, or one that is chosen by neither rm nor B
 abbrev pub rm_free : FormRow → Bool
-rm_free row = is_register row.at.place || (no_b row.when && (no_rm row.at.rm && no_rm_content row.content))
+rm_free row = is_register row.at.place || (no_b row.when && (no_rm row.at.rm && no_rm_names row.names))
 
 module _ (p q : Prefixes) (m n : ℕ) (h : SamePrefixes p q) (mm : is_memory m ≡ true) (nm : is_memory n ≡ true) (same : reg_field m ≡ reg_field n) where
   rm_alike : (r : Rm) (strict : Bool) → no_rm r ≡ true → is_rm r strict m ≡ is_rm r strict n
@@ -86,19 +85,19 @@ module _ (p q : Prefixes) (m n : ℕ) (h : SamePrefixes p q) (mm : is_memory m �
   reg_alike : (r : Reg) → is_reg r m ≡ is_reg r n
   reg_alike r = grind arith
 
-  named_alike : (content : Content) → no_rm_content content ≡ true → is_named content m ≡ is_named content n
-  named_alike content e = grind arith
+  named_alike : (names : Names) → no_rm_names names ≡ true → is_named names m ≡ is_named names n
+  named_alike names e = grind arith
 
   placed_alike : (place : Place) → is_placed place m ≡ is_placed place n
   placed_alike place = grind arith
 
   pub there_alike : (own : TableRow) (strict : Bool) (row : FormRow) → rm_free row ≡ true → is_there row own strict p m ≡ is_there row own strict q n
-  there_alike own strict row free = elim (or_cases (is_register row.at.place) (no_b row.when && (no_rm row.at.rm && no_rm_content row.content)) free) [
+  there_alike own strict row free = elim (or_cases (is_register row.at.place) (no_b row.when && (no_rm row.at.rm && no_rm_names row.names)) free) [
     | inl is ↦ row_absent row own strict p m is mm ∙ sym (row_absent row own strict q n is nm)
     | inr rest ↦
         let parts = and_parts (no_b row.when) _ rest in
-        let rms = and_parts (no_rm row.at.rm) (no_rm_content row.content) parts.1 in
-        rw (placed_alike row.at.place, reg_alike row.at.reg, rm_alike row.at.rm strict rms.0, prefixed_alike row.when own p q h parts.0, named_alike row.content rms.1) refl
+        let rms = and_parts (no_rm row.at.rm) (no_rm_names row.names) parts.1 in
+        rw (placed_alike row.at.place, reg_alike row.at.reg, rm_alike row.at.rm strict rms.0, prefixed_alike row.when own p q h parts.0, named_alike row.names rms.1) refl
   ]
 
 -- ---- tests of plans, that hold of a choice where they hold of both sides
@@ -181,13 +180,9 @@ most l = 0
 abbrev pub few : Letters → Bool
 few operands = nat_lt (total (map most (letters_list operands))) 9
 
--- no gap, unless gaps are passed, a small size, and few immediates
-abbrev pub fits : Bool → Content → Bool
-fits gaps (Reads names operands memory register change) = small_bytes memory && (small_bytes register && few operands)
-fits gaps (Refuses operands fault moment) = (gaps || not (is_gap fault)) && few operands
-
+-- no gap, unless gaps are passed, small sizes, and few immediates
 abbrev pub row_fits : Bool → FormRow → Bool
-row_fits gaps row = fits gaps row.content
+row_fits gaps row = (gaps || not (has_gap row.verdict)) && (small_bytes row.in_memory && (small_bytes row.in_register && few row.operands))
 
 last_most : (l : Last) (p : Prefixes) → immediate_width (last_encoding l p) ≤ most_of_last l
 last_most l p = grind arith
@@ -201,28 +196,23 @@ unfolding narrow
 encodings_narrow operands own p m h = grind (arith, nat_tests, encoding_most)
 
 bytes_small : (s : RowSize) (o : ℕ) (p : Prefixes) → small_bytes s ≡ true → nat_lt (row_bytes s o p) 65 ≡ true
-bytes_small (Named s) o p h = grind (arith, small_width)
-bytes_small FarPointer o p h = grind arith
-bytes_small s o p h = grind (arith, small_width)
+bytes_small (Bytes n) o p h = h
+bytes_small (Of size.FarPointer) o p h = grind arith
+bytes_small (Of s) o p h = grind (arith, small_width)
 
-content_passes : (gaps : Bool) (content : Content) (own : TableRow) (p : Prefixes) (m : ℕ) → fits gaps content ≡ true → passes gaps (plan_of_row content own p m) ≡ true
+row_passes : (gaps : Bool) (row : FormRow) (own : TableRow) (p : Prefixes) (m : ℕ) → row_fits gaps row ≡ true → passes gaps (plan_of_row row own p m) ≡ true
 unfolding passes
-content_passes gaps (Reads names operands memory register change) own p m h =
-    let parts = and_parts (small_bytes memory) _ h in
-    let rest = and_parts (small_bytes register) _ parts.1 in
-    let o = own.opcode in
-    plan_passes gaps (opcode_of names own m) (operand_encodings operands own p m) _ change (verdict_of names) (grind arith)
-    (small_if (is_memory m) (row_bytes memory o p) (row_bytes register o p) (bytes_small memory o p parts.0) (bytes_small register o p rest.0))
-    (encodings_narrow operands own p m rest.1)
-content_passes gaps (Refuses operands fault moment) own p m h =
-    let parts = and_parts (gaps || not (is_gap fault)) _ h in
-    rw (parts.0, encodings_narrow operands own p m parts.1) refl
+row_passes gaps row own p m h =
+    let sizes = and_parts (gaps || not (has_gap row.verdict)) _ h in
+    let register = and_parts (small_bytes row.in_memory) _ sizes.1 in
+    let operands = and_parts (small_bytes row.in_register) _ register.1 in
+    rw (sizes.0, small_if (is_memory m) _ _ (bytes_small row.in_memory own.opcode p register.0) (bytes_small row.in_register own.opcode p operands.0), encodings_narrow row.operands own p m operands.1) refl
 
 -- the plan of the first of rows that fit
 pub rows_pass : (gaps : Bool) (rows : List FormRow) (own : TableRow) (strict : Bool) (p : Prefixes) (m : ℕ) → list_all (row_fits gaps) rows ≡ true → passes gaps (plan_of_row (choose rows own strict p m) own p m) ≡ true
 rows_pass gaps rows own strict p m h =
-    content_passes gaps (choose rows own strict p m) own p m
-    (chosen_has (λ content. fits gaps content ≡ true) (row_fits gaps) own strict p m (grind arith) (λ row e held. e) rows h)
+    row_passes gaps (choose rows own strict p m) own p m
+    (chosen_has (λ row. row_fits gaps row ≡ true) (row_fits gaps) own strict p m (grind arith) (λ row e held. e) rows h)
 
 -- ---- two ModRM bytes of the memory form that have the same reg, under prefixes that differ in X and B alone
 
@@ -240,12 +230,11 @@ is_memory_letter letter.Emm = true
 is_memory_letter l = false
 
 -- nothing of it goes by rm, X or B; and it refuses, or has a memory operand
-abbrev pub in_memory : Content → Bool
-in_memory (Reads names operands memory register change) = no_rm_names names && (list_all rm_free_letter (letters_list operands) && list_any is_memory_letter (letters_list operands))
-in_memory (Refuses operands fault moment) = list_all rm_free_letter (letters_list operands)
+abbrev pub in_memory : FormRow → Bool
+in_memory row = no_rm_names row.names && (list_all rm_free_letter (letters_list row.operands) && (is_refusal row.verdict || list_any is_memory_letter (letters_list row.operands)))
 
 abbrev pub row_in_memory : FormRow → Bool
-row_in_memory row = is_register row.at.place || in_memory row.content
+row_in_memory row = is_register row.at.place || in_memory row
 
 -- what holds of rows with ModRM
 abbrev pub keeps_reg : FormRow → Bool
@@ -287,29 +276,28 @@ module _ (own : TableRow) (p q : Prefixes) (m n : ℕ) (h : SamePrefixes p q) wh
   encodings_alike = operands_same rm_free_letter own own p q m n encoding_alike
 
   bytes_alike : (s : RowSize) (o : ℕ) → row_bytes s o p ≡ row_bytes s o q
-  bytes_alike (Named s) o = size_alike s o p q h
-  bytes_alike s o = grind (arith, class_alike)
+  bytes_alike (Of s) o = size_alike s o p q h
+  bytes_alike s o = refl
 
   opcode_alike : (names : Names) → reg_field m ≡ reg_field n → no_rm_names names ≡ true → opcode_of names own m ≡ opcode_of names own n
   opcode_alike names same e = grind arith
 
-  pub content_alike : (content : Content) → reg_field m ≡ reg_field n → is_memory m ≡ is_memory n → in_memory content ≡ true → plan_of_row content own p m ≡ plan_of_row content own q n
-  content_alike (Reads names operands memory register change) same mem e =
-      let x = and_parts (no_rm_names names) _ e in
-      let y = and_parts (list_all rm_free_letter (letters_list operands)) _ x.1 in
-      rw (opcode_alike names same x.0, encodings_alike operands y.0, bytes_alike memory own.opcode, bytes_alike register own.opcode, mem) refl
-  content_alike (Refuses operands fault moment) same mem e = rw (encodings_alike operands e) refl
+  pub plan_alike : (row : FormRow) → reg_field m ≡ reg_field n → is_memory m ≡ is_memory n → in_memory row ≡ true → plan_of_row row own p m ≡ plan_of_row row own q n
+  plan_alike row same mem e =
+      let x = and_parts (no_rm_names row.names) _ e in
+      let y = and_parts (list_all rm_free_letter (letters_list row.operands)) _ x.1 in
+      rw (opcode_alike row.names same x.0, encodings_alike row.operands y.0, bytes_alike row.in_memory own.opcode, bytes_alike row.in_register own.opcode, mem) refl
 
 -- in the memory form the first row refuses, or has a memory operand
 pub first_in_memory : (rows : List FormRow) (own : TableRow) (strict : Bool) (p : Prefixes) (m : ℕ) → list_all keeps_reg rows ≡ true → is_memory m ≡ true → in_memory (choose rows own strict p m) ≡ true
 first_in_memory rows own strict p m h mem =
-    chosen_has (λ content. in_memory content ≡ true) keeps_reg own strict p m refl
-    (λ row test held. elim (or_cases (is_register row.at.place) (in_memory row.content) (and_parts (rm_free row) _ test).1) [
+    chosen_has (λ row. in_memory row ≡ true) keeps_reg own strict p m refl
+    (λ row test held. elim (or_cases (is_register row.at.place) (in_memory row) (and_parts (rm_free row) _ test).1) [
       | inl is ↦ absurd (true≢false (sym held ∙ row_absent row own strict p m is mem))
       | inr e ↦ e
     ]) rows h
 
 pub rows_alike : (rows : List FormRow) (own : TableRow) (strict : Bool) (p q : Prefixes) (m n : ℕ) → list_all keeps_reg rows ≡ true → SamePrefixes p q → is_memory m ≡ true → is_memory n ≡ true → reg_field m ≡ reg_field n → plan_of_row (choose rows own strict p m) own p m ≡ plan_of_row (choose rows own strict q n) own q n
 rows_alike rows own strict p q m n kept h mm nm same =
-    content_alike own p q m n h (choose rows own strict p m) same (mm ∙ sym nm) (first_in_memory rows own strict p m kept mm)
-    ∙ ap (λ content. plan_of_row content own q n) (chosen_alike keeps_reg own strict strict p q m n (λ row test. there_alike p q m n h mm nm same own strict row (and_parts (rm_free row) _ test).0) rows kept)
+    plan_alike own p q m n h (choose rows own strict p m) same (mm ∙ sym nm) (first_in_memory rows own strict p m kept mm)
+    ∙ ap (λ row. plan_of_row row own q n) (chosen_alike keeps_reg own strict strict p q m n (λ row test. there_alike p q m n h mm nm same own strict row (and_parts (rm_free row) _ test).0) rows kept)
