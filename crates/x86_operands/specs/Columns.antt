@@ -2,7 +2,7 @@
 -- there: a name and operands, or a refusal. The first row that holds counts. `own` is the row in the opcode map. Source:
 -- Intel SDM volume 2, appendix A.2 (the letters of operands) and A.4 (the columns of its tables of opcode extensions).
 use Rattle.std.specs.Prelude.{ℕ, nat_le, ◌==◌, Bool, true, not, ◌&&◌, ◌||◌, if◌then◌else◌, List, [], ◌∷◌, slice_index_or, unwrap_or}
-use Rattle.x86_operands.specs.Vocabulary.{RegisterClass, Prefixes, TableRow, BadOpcode, AtModRM, Keeps, OperandEncoding, OperandEncodings, Plan, Verdict, width_of, reg_spec, reg_field, rm_field, is_memory, operand_size, address_size, has_r, has_w, has_b, repnz, rep, class_of, v_class}
+use Rattle.x86_operands.specs.Vocabulary.{RegisterClass, Prefixes, TableRow, BadOpcode, AtModRM, OperandEncoding, OperandEncodings, Plan, reg_spec, reg_field, rm_field, is_memory, operand_size, address_size, has_r, has_w, has_b, repnz, rep, class_of}
 use Rattle.x86_operands.specs.RowVocabulary.{ByReg, ByRm, Bytes, FormRow, Letter, Letters, Memory, Name, Names, Of, Own, Place, Reg, Register, Rm, RowSize, When}
 use Rattle.x86_operands.specs.Words.{otherwise}
 use Rattle.x86_regs.specs.declared.RegisterClass.TheVariants as class

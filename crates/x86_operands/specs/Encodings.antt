@@ -1,5 +1,6 @@
 -- What a line of the operand encodings means. In a form that has sizes for named opcodes alone, any other opcode has size 0.
-use Rattle.std.specs.Prelude.{ℕ, Bool, true, false, ◌==◌, ◌+◌, if◌then◌else◌, not, pos, ◌&&◌, ◌||◌, List, [], ◌∷◌}
+use Rattle.std.specs.Prelude.{ℕ, Bool, true, false, ◌==◌, ◌+◌, if◌then◌else◌, not, pos, ◌&&◌, ◌||◌, List, [], ◌∷◌, unwrap_or}
+use Rattle.std.specs.Map.{lookup}
 use Rattle.x86_regs.specs.declared.RegisterClass.TheVariants as class
 use Rattle.x86_opcodes.specs.Kinds.{is_among}
 use Rattle.x86_opcodes.specs.Names.{CALL, CMPSD, CMPSS, ROUNDSS, ROUNDSD, MOVDDUP, MOVNTSS, MOVNTPS, MOVNTPD, MOVNTDQ, PEXTRB, PEXTRW, EXTRACTPS, PINSRB, INSERTPS, PMOVSXBQ, PMOVZXBQ, PMOVSXBD, PMOVZXBD, PMOVSXWQ, PMOVZXWQ, UCOMISS, COMISS, CVTSS2SD, MOVLPD, MOVHPD, PUNPCKLBW, PUNPCKLWD, PUNPCKLDQ, RETURN, RETF, PUSHF, POPF, LEAVE, XLAT}
@@ -21,8 +22,7 @@ immediate_by quad c = encoding.I32
 
 -- the bytes of the first operations that have this one among them, or those of all others
 abbrev pub first_size : List (List ℕ × ℕ) → ℕ → ℕ → ℕ
-first_size [] other o = other
-first_size ((names, bytes) ∷ rest) other o = if is_among names o then bytes else first_size rest other o
+first_size rows other o = unwrap_or (lookup (λ names. is_among names o) rows) other
 
 -- the sizes that the operation alone decides
 abbrev pub named_size : Size → ℕ → ℕ

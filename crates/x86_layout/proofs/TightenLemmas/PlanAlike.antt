@@ -1,6 +1,6 @@
 -- In the memory form a plan goes by reg, and not by mod, rm, and the bits X and B. It refuses, or writes the memory as an
 -- operand.
-use Rattle.std.proofs.Common.{◌≡◌, ℕ, ◌||◌, Bool, if◌then◌else◌, true, false, Option, Some, None, refl, ◌∙◌, arith}
+use Rattle.std.proofs.Common.{◌≡◌, ℕ, ◌||◌, Bool, if◌then◌else◌, true, false, Option, Some, None, refl, arith}
 use Rattle.std.specs.List.{list_all, list_any}
 use Rattle.std.proofs.lemmas.Bool.{and_parts}
 use Rattle.x86_fields.specs.declared.prefixes.Prefixes.{Prefixes}
