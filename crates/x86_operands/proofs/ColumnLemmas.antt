@@ -4,7 +4,7 @@ use Rattle.std.specs.List.{list_all, list_any}
 use Rattle.std.proofs.lemmas.Bool.{and_parts, or_cases, and_left}
 use Rattle.std.proofs.lemmas.Bool.Decides.{nat_tests}
 use Rattle.x86_fields.specs.Pieces.{total}
-use Rattle.x86_operands.specs.Vocabulary.{Prefixes, Width, Last, Size, TableRow, BadOpcode, AtModRM, reg_field, is_memory, class_of, RegisterClass, Fault, Incomplete, Moment, Verdict, Refuses, Plan, PrefixChange, OperandEncodings, width_of, has_r, has_w, repnz, rep}
+use Rattle.x86_operands.specs.Vocabulary.{Prefixes, Width, Last, Size, TableRow, BadOpcode, AtModRM, reg_field, is_memory, class_of, RegisterClass, Fault, Incomplete, Moment, Verdict, Refuses, Plan, OperandEncodings, width_of, has_r, has_w, repnz, rep}
 use Rattle.x86_operands.specs.RowVocabulary.{Letter, Letters, RowSize, Bytes, Of, Names, FormRow, Place, Register, Reg, When, Rm, ByRm}
 use Rattle.x86_operands.specs.Words.{otherwise}
 use Rattle.x86_operands.specs.Plans.{is_refusal}
@@ -15,7 +15,6 @@ use Rattle.x86_operands.specs.declared.letters.Letters.TheVariants as letters
 use Rattle.x86_operands.specs.Asks.{immediate_width, immediates_width}
 use Rattle.x86_operands.specs.Encodings.{last_encoding, size_bytes}
 use Rattle.x86_operands.specs.Columns.{choose, letter_encoding, operand_encodings, row_bytes, opcode_of, plan_of_row, is_there, is_placed, is_reg, is_rm, is_prefixed, is_named}
-use Rattle.x86_opcodes.specs.declared.Opcode.{Opcode}
 use Rattle.x86_operands.specs.declared.rows.Rm.TheVariants as rms
 use Rattle.x86_operands.specs.declared.rows.When.TheVariants as when
 
@@ -124,10 +123,6 @@ small_if b x y h k = grind arith
 
 pub small_width : (c : RegisterClass) → nat_lt (width_of c) 65 ≡ true
 small_width c = search rules
-
-pub plan_passes : (gaps : Bool) (opcode : Opcode) (encodings : OperandEncodings) (n : ℕ) (change : PrefixChange) (verdict : Verdict) → not (has_gap verdict) ≡ true → nat_lt n 65 ≡ true → narrow encodings ≡ true → passes gaps (record { opcode = opcode; encodings = encodings; size = n; change = change; verdict = verdict }) ≡ true
-unfolding passes
-plan_passes gaps opcode encodings n change verdict v k w = grind arith
 
 -- the three tests that a plan passes
 module _ (gaps : Bool) (plan : Plan) (h : passes gaps plan ≡ true) where
