@@ -13,7 +13,9 @@ FORMS = Path(__file__).resolve().parent.parent / "crates" / "x86_forms"
 # the groups that reg chooses, in the order of `RegGroup`
 BY_REG = ["80", "81", "83", "c0", "c1", "c6", "c7", "d0", "d1", "d2", "d3", "f6", "f7", "fe", "ff"]
 HALVES = [["Opcode", "MOVLPD"], ["Opcode", "MOVHPD"]]  # the loads that `FormByOpcode` refuses at a register form
-LASTS = {"cl": "Cl"}
+# the last operands of lines, in the words of rows
+LASTS = {word: word for word in ("I8", "U8", "U16", "I32", "Iv", "Ivq", "Ip")}
+LASTS |= {"signed_one": "SIGNED_ONE", "unsigned_one": "UNSIGNED_ONE", "three": "THREE", "cl": "CL"}
 THIRD = ["Implied", "Third", "1", "class.B"]  # CL after two others
 MM = {"Gmm": ("G", "Mm"), "Emm": ("E", "Mm"), "Umm": ("E", "Mm"), "M": ("E", "B")}
 BYTES = {"Bytes(0)": "Zero", "Bytes(1)": "One", "Bytes(2)": "Two", "Bytes(4)": "Four", "Bytes(8)": "Eight", "Bytes(16)": "Sixteen"}
@@ -35,10 +37,8 @@ def operand(words):
     if isinstance(words, str):
         return MM[words] if words in MM else ("I", word(LASTS, words))
     head, *of = words
-    if head == "Last":
-        return "I", of[0].removeprefix("last.")
     if words == THIRD:
-        return "I", "ClThird"
+        return "I", "CL_THIRD"
     if head == "Z" and of[0] == "Reg":
         return "Z", of[1]
     return word({"A": "A", "G": "G", "E": "E", "U": "E"}, head), of[0]
@@ -73,7 +73,7 @@ def encoding(after, operands, sizes):
         after = {"Z": "Opcode", "A": "Accumulator"}.get(next((part for part in "ZA" if part in of), ""), "Nothing")
     reg = of.get("Z") or of.get("A") or of.get("G") or "B"
     order = "_".join("R" if part in "ZA" else part for part, _ in parts) or "NO"
-    return f"{after} {order} {reg} {of.get('E', 'B')} {of.get('I', 'Absent')} {' '.join(sizes)}"
+    return f"{after} {order} {reg} {of.get('E', 'B')} {of.get('I', 'ABSENT')} {' '.join(sizes)}"
 
 
 def line(rows):

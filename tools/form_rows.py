@@ -56,10 +56,10 @@ WHOLE = {
     "with_register": ("reg", "AfterAddress"),
 }
 # the words of a letter's definition, and their types
-TYPE_OF = {"last": "Last", "slot": "RegisterSlot", "pointer": "PointerSlot", "class": "RegisterClass"}
+TYPE_OF = {"slot": "RegisterSlot", "class": "RegisterClass"}
 # where a table's names are: the types, and the enums whose variants it has
-TYPES = {"letters": ["Letter"], "plans": ["PointerSlot", "RegisterSlot"], "rows": ["FormRow", "Reg", "Rm"], "": ["Last", "Size"]}
-ENUMS = {"letters": ["Letter", "Letters", "RowSize"], "rows": ["Names", "When"]}
+TYPES = {"plans": ["OperandEncoding", "PointerSlot", "RegisterSlot"], "rows": ["FormRow", "Reg", "Rm"], "": ["Size"]}
+ENUMS = {"plans": ["OperandEncoding", "OperandEncodings"], "rows": ["Names", "RowSize", "When"]}
 
 
 @dataclass
@@ -238,28 +238,26 @@ def checked(function, form, rows):
 
 @functools.cache
 def letters():
-    """The words for one letter, each with what it stands for."""
+    """The words for one operand, each with what it stands for."""
     text = (CRATES / "x86_operands" / "specs" / "Words.antt").read_text()
-    lasts = variants("x86_operands/src/encodings.rt", "Last") - {"Cl"}  # which is a register that the name implies
-    answer = {last: f"Letter::Last(Last::{last})" for last in sorted(lasts)}
-    for word, letter, of in re.findall(r"^(\w+) = letter\.(\w+) (.+)$", text, re.M):
-        parts = [re.sub(r"(\w+)\.", lambda kind: f"{TYPE_OF[kind[1]]}::", part) for part in of.split()]
-        answer[word] = f"Letter::{letter}({', '.join(parts)})"
+    answer = {}
+    for word, letter, of in re.findall(r"^(\w+) = encoding\.(\w+) (.+)$", text, re.M):
+        parts = [re.sub(r"(\w+)\.", lambda kind: f"{TYPE_OF[kind[1]]}::", part) for part in of.replace("(pos 1)", "1").split()]
+        answer[word] = f"{letter}({', '.join(parts)})"
     return answer
 
 
 def constant(word):
-    """The constant of a word for one letter."""
+    """The constant of a word for one operand."""
     return re.sub(r"(?<=[a-z])(?=[A-Z])", "_", word).upper()
 
 
 def letter(words):
-    """A letter as the table has it."""
+    """An operand as the table has it."""
     if isinstance(words, str):
         return constant(words) if words in letters() else words
     word, *of = words
-    if word == "Last":
-        return constant(of[0].removeprefix("last."))
+    of = [*of, "0"] if word == "Z" else of
     slot = {"Z": "RegisterSlot::", "Implied": "RegisterSlot::", "At": "PointerSlot::"}.get(word, "")
     return f"{word}({slot}{', '.join(of)})".replace("class.", "RegisterClass::")
 
@@ -315,7 +313,7 @@ def use_lines(uses):
         if len(line) <= 100:
             yield line
         else:
-            yield from [f"use {path}::{{", *textwrap.wrap(f"{listed},", 100, initial_indent="    ", subsequent_indent="    "), "};"]
+            yield from [f"use {path}::{{", *textwrap.wrap(f"{listed},", 99, initial_indent="    ", subsequent_indent="    "), "};"]
 
 
 def variants(path, name):
@@ -327,8 +325,8 @@ def imports(crate, constants, entries, others):
     """The imports of a table: what its constants and its rows name, and others."""
     of = {path: {*listed} for path, listed in others.items()}
     typed = {"FormRow", *re.findall(r"(?<![\w:])(\w+)::", "\n".join([*constants, *entries]))}
-    typed.update(["Letter"] if constants else [])
-    named = {*re.findall(r"(?<![\w:])\w+", "\n".join(entries))}
+    typed.update(["OperandEncoding"] if constants else [])
+    named = {*re.findall(r"(?<![\w:])\w+", "\n".join([*constants, *entries]))}
     found = [(f"{crate}::{path}".removesuffix("::"), typed.intersection(types)) for path, types in TYPES.items()]
     found += [("x86_regs", typed & {"RegisterClass"}), ("x86_fields::Width", named & variants("x86_fields/src/sizes.rt", "Width"))]
     for path, enums in ENUMS.items():
@@ -377,7 +375,7 @@ def table(function, forms, numbers, others, between=()):
     left_out = every.pop("f")
     entries = [each for rows in every.values() for each in rows]
     used = {name for each in entries for name in re.findall(r"(?<![\w:])\w+", each.split(";", 2)[2])}
-    constants = [f"const {constant(word)}: Letter = {of};" for word, of in letters().items() if constant(word) in used]
+    constants = [f"const {constant(word)}: OperandEncoding = {of};" for word, of in letters().items() if constant(word) in used]
     crate = CRATE_OF[function]
     prelude = "◌≡◌, ◌≤◌, ◌-◌, length, take, drop" if function == PLAIN else "◌≡◌"
     lines = [f"ghost use Rattle.std.specs.Prelude.{{{prelude}}};", f"ghost use Rattle.{crate}.specs.Rows.{{{function}}};", ""]

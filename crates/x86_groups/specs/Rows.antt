@@ -8,12 +8,11 @@ use Rattle.x86_opcodes.specs.Names.{ADC, ADD, AESDEC128KL, AESDEC256KL, AESDECWI
 use Rattle.x86_fields.specs.declared.sizes.Width.TheVariants.{B, W, D, Q, X, V, Vq, Dq}
 use Rattle.x86_groups.specs.Vocabulary.{Form, BadOpcode, BadOperand, Incomplete, AtModRM, AfterAddress, ClearsOperandSize, Own, Name, Bytes, FormRow}
 use Rattle.x86_forms.specs.declared.Form.TheVariants as form
-use Rattle.x86_operands.specs.declared.encodings.Last.TheVariants.{I8, U8, Iv, SignedOne}
-use Rattle.x86_operands.specs.declared.letters.Letter.TheVariants.{E, G, U, M, Gmm, Emm, Umm, Cr, Dr, X8, Jv, StRm, RdInReg, Last}
-use Rattle.x86_operands.specs.declared.letters.Letters.TheVariants.{Zero, One, Two, Three, Four}
+use Rattle.x86_operands.specs.declared.plans.OperandEncoding.TheVariants.{E, G, U, M, Gmm, Emm, Umm, Cr, Dr, I8, U8, Iv, X8, Jv, StRm, RdInReg}
+use Rattle.x86_operands.specs.declared.plans.OperandEncodings.TheVariants.{Zero, One, Two, Three, Four}
 use Rattle.x86_operands.specs.declared.rows.When.TheVariants.{Always, NoPrefix, NoRepeat, Only66, F2, F3, With66, RexW, RexR}
 use Rattle.x86_operands.specs.Columns.{none}
-use Rattle.x86_operands.specs.Words.{mem, reg, both, mem_at, reg_at, both_at, reg_from, reg_rm, rm_at, strict_rm, by_reg, by_rm, cl, rax, eax, ecx, st0, ecx_in_rm, edx_in_rm, ecx_third, of_vq, of_dq, size, size_v, size_vq, or_v, undecided, read, changing, suffixed, refusal, otherwise}
+use Rattle.x86_operands.specs.Words.{mem, reg, both, mem_at, reg_at, both_at, reg_from, reg_rm, rm_at, strict_rm, by_reg, by_rm, signed_one, cl, rax, eax, ecx, st0, ecx_in_rm, edx_in_rm, ecx_third, of_vq, of_dq, size, size_v, size_vq, or_v, undecided, read, changing, suffixed, refusal, otherwise}
 
 -- of the groups none is left to the last line, for forms that have no rows
 unfoldable pub group_rows : Form → List FormRow
@@ -43,7 +42,7 @@ group_rows form.ModRM_0xf30f38fb =
     otherwise BadOpcode AfterAddress ∷ []
 -- HRESET, which needs F3 as the only prefix (group_fault)
 group_rows form.ModRM_0xf30f3af0 =
-    read reg Always (Name HRESET) (One (Last U8)) (size 0) ∷
+    read reg Always (Name HRESET) (One U8) (size 0) ∷
     otherwise BadOpcode AtModRM ∷ []
 -- map 0F: group 6
 group_rows form.ModRM_0x0f00 =
@@ -125,18 +124,18 @@ group_rows form.Dq_Rq_0 =
     read reg Always Own (Two Dr (U Q)) (size 0) ∷ []
 -- groups 12, 13 and 14
 group_rows form.ModRM_0x0f71 =
-    read reg Only66 (by_reg none none PSRLW none PSRAW none PSLLW none) (Two (U X) (Last U8)) size_v ∷
-    read reg NoPrefix (by_reg none none PSRLW none PSRAW none PSLLW none) (Two Umm (Last U8)) size_v ∷
+    read reg Only66 (by_reg none none PSRLW none PSRAW none PSLLW none) (Two (U X) U8) size_v ∷
+    read reg NoPrefix (by_reg none none PSRLW none PSRAW none PSLLW none) (Two Umm U8) size_v ∷
     refusal reg NoRepeat BadOpcode AfterAddress ∷
     otherwise BadOperand AfterAddress ∷ []
 group_rows form.ModRM_0x0f72 =
-    read reg Only66 (by_reg none none PSRLD none PSRAD none PSLLD none) (Two (U X) (Last U8)) size_v ∷
-    read reg NoPrefix (by_reg none none PSRLD none PSRAD none PSLLD none) (Two Umm (Last U8)) size_v ∷
+    read reg Only66 (by_reg none none PSRLD none PSRAD none PSLLD none) (Two (U X) U8) size_v ∷
+    read reg NoPrefix (by_reg none none PSRLD none PSRAD none PSLLD none) (Two Umm U8) size_v ∷
     refusal reg NoRepeat BadOpcode AfterAddress ∷
     otherwise BadOperand AfterAddress ∷ []
 group_rows form.ModRM_0x0f73 =
-    read reg Only66 (by_reg none none PSRLQ PSRLDQ none none PSLLQ PSLLDQ) (Two (U X) (Last U8)) size_v ∷
-    read reg NoPrefix (by_reg none none PSRLQ none none none PSLLQ none) (Two Umm (Last U8)) size_v ∷
+    read reg Only66 (by_reg none none PSRLQ PSRLDQ none none PSLLQ PSLLDQ) (Two (U X) U8) size_v ∷
+    read reg NoPrefix (by_reg none none PSRLQ none none none PSLLQ none) (Two Umm U8) size_v ∷
     refusal (reg_at 3) NoPrefix BadOperand AfterAddress ∷
     refusal (reg_at 7) NoPrefix BadOperand AfterAddress ∷
     refusal reg NoRepeat BadOpcode AfterAddress ∷
@@ -162,7 +161,7 @@ group_rows form.ModRM_0x0fae =
     otherwise BadOpcode AtModRM ∷ []
 -- group 8
 group_rows form.ModRM_0x0fba =
-    read both Always (by_reg none none none none BT BTS BTR BTC) (Two (E Vq) (Last I8)) (of_vq, Bytes 0) ∷
+    read both Always (by_reg none none none none BT BTS BTR BTC) (Two (E Vq) I8) (of_vq, Bytes 0) ∷
     otherwise BadOpcode AtModRM ∷ []
 -- group 9
 group_rows form.ModRM_0x0fc7 =
@@ -185,10 +184,10 @@ group_rows form.ModRM_0x0fc7 =
     otherwise BadOperand AtModRM ∷ []
 -- AMD APM volume 4, EXTRQ and INSERTQ
 group_rows form.ModRM_0x660f78 =
-    read (reg_at 0) Always (Name EXTRQ) (Three (U X) (Last U8) X8) (size 0) ∷
+    read (reg_at 0) Always (Name EXTRQ) (Three (U X) U8 X8) (size 0) ∷
     otherwise BadOperand AtModRM ∷ []
 group_rows form.ModRM_0xf20f78 =
-    read reg Always (Name INSERTQ) (Four (G X) (U X) (Last U8) X8) (size 0) ∷
+    read reg Always (Name INSERTQ) (Four (G X) (U X) U8 X8) (size 0) ∷
     otherwise BadOperand AtModRM ∷ []
 -- Intel SDM volume 2, ENDBR32 and ENDBR64
 group_rows form.ModRM_0xf30f1e =
@@ -196,36 +195,36 @@ group_rows form.ModRM_0xf30f1e =
     read (reg_rm 7 3) Always (Name ENDBR32) Zero (size 0) ∷
     read both Always (Name NOP) (Two (E V) (G V)) size_v ∷ []
 -- the one-byte map: group 1
-group_rows form.ModRM_0x80 = read both Always (by_reg ADD OR ADC SBB AND SUB XOR CMP) (Two (E B) (Last I8)) (size 1) ∷ []
-group_rows form.ModRM_0x81 = read both Always (by_reg ADD OR ADC SBB AND SUB XOR CMP) (Two (E V) (Last Iv)) size_v ∷ []
-group_rows form.ModRM_0x83 = read both Always (by_reg ADD OR ADC SBB AND SUB XOR CMP) (Two (E V) (Last I8)) size_v ∷ []
+group_rows form.ModRM_0x80 = read both Always (by_reg ADD OR ADC SBB AND SUB XOR CMP) (Two (E B) I8) (size 1) ∷ []
+group_rows form.ModRM_0x81 = read both Always (by_reg ADD OR ADC SBB AND SUB XOR CMP) (Two (E V) Iv) size_v ∷ []
+group_rows form.ModRM_0x83 = read both Always (by_reg ADD OR ADC SBB AND SUB XOR CMP) (Two (E V) I8) size_v ∷ []
 -- group 1A. Another reg is not built
 group_rows form.ModRM_0x8f =
     read (both_at 0) With66 (Name POP) (One (E V)) size_v ∷
     read (both_at 0) Always (Name POP) (One (E V)) (or_v (Bytes 8)) ∷
     otherwise Incomplete AfterAddress ∷ []
 -- group 2
-group_rows form.ModRM_0xc0 = read both Always (by_reg ROL ROR RCL RCR SHL SHR SAL SAR) (Two (E B) (Last I8)) (size 1) ∷ []
-group_rows form.ModRM_0xc1 = read both Always (by_reg ROL ROR RCL RCR SHL SHR SAL SAR) (Two (E V) (Last I8)) size_v ∷ []
-group_rows form.ModRM_0xd0 = read both Always (by_reg ROL ROR RCL RCR SHL SHR SAL SAR) (Two (E B) (Last SignedOne)) (size 1) ∷ []
-group_rows form.ModRM_0xd1 = read both Always (by_reg ROL ROR RCL RCR SHL SHR SAL SAR) (Two (E V) (Last SignedOne)) size_v ∷ []
+group_rows form.ModRM_0xc0 = read both Always (by_reg ROL ROR RCL RCR SHL SHR SAL SAR) (Two (E B) I8) (size 1) ∷ []
+group_rows form.ModRM_0xc1 = read both Always (by_reg ROL ROR RCL RCR SHL SHR SAL SAR) (Two (E V) I8) size_v ∷ []
+group_rows form.ModRM_0xd0 = read both Always (by_reg ROL ROR RCL RCR SHL SHR SAL SAR) (Two (E B) signed_one) (size 1) ∷ []
+group_rows form.ModRM_0xd1 = read both Always (by_reg ROL ROR RCL RCR SHL SHR SAL SAR) (Two (E V) signed_one) size_v ∷ []
 group_rows form.ModRM_0xd2 = read both Always (by_reg ROL ROR RCL RCR SHL SHR SAL SAR) (Two (E B) cl) (size 1) ∷ []
 group_rows form.ModRM_0xd3 = read both Always (by_reg ROL ROR RCL RCR SHL SHR SAL SAR) (Two (E V) cl) size_v ∷ []
 -- group 11
 group_rows form.ModRM_0xc6 =
-    read (both_at 0) Always (Name MOV) (Two (E B) (Last I8)) (size 1) ∷
-    read (rm_at 0) Always (Name XABORT) (One (Last I8)) (size 1) ∷
+    read (both_at 0) Always (Name MOV) (Two (E B) I8) (size 1) ∷
+    read (rm_at 0) Always (Name XABORT) (One I8) (size 1) ∷
     otherwise BadOperand AfterAddress ∷ []
 group_rows form.ModRM_0xc7 =
-    read (both_at 0) Always (Name MOV) (Two (E V) (Last Iv)) size_v ∷
+    read (both_at 0) Always (Name MOV) (Two (E V) Iv) size_v ∷
     read (rm_at 0) Always (Name XBEGIN) (One Jv) size_v ∷
     otherwise BadOperand AfterAddress ∷ []
 -- group 3
 group_rows form.ModRM_0xf6 =
-    read both Always (by_reg TEST TEST none none none none none none) (Two (E B) (Last I8)) (size 1) ∷
+    read both Always (by_reg TEST TEST none none none none none none) (Two (E B) I8) (size 1) ∷
     read both Always (by_reg none none NOT NEG MUL IMUL DIV IDIV) (One (E B)) (size 1) ∷ []
 group_rows form.ModRM_0xf7 =
-    read both Always (by_reg TEST TEST none none none none none none) (Two (E V) (Last Iv)) size_v ∷
+    read both Always (by_reg TEST TEST none none none none none none) (Two (E V) Iv) size_v ∷
     read both Always (by_reg none none NOT NEG MUL IMUL DIV IDIV) (One (E V)) size_v ∷ []
 -- groups 4 and 5
 group_rows form.ModRM_0xfe =

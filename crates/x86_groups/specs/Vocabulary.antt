@@ -15,11 +15,9 @@ pub use Rattle.x86_operands.specs.declared.plans.Fault.TheVariants.{BadOpcode, B
 pub use Rattle.x86_operands.specs.declared.plans.Moment.TheVariants.{AtModRM, AfterAddress}
 pub use Rattle.x86_operands.specs.declared.plans.PrefixChange.TheVariants.{Keeps, ClearsOperandSize}
 pub use Rattle.x86_operands.specs.declared.plans.ModrmUse.TheVariants.{EitherForm, Registers}
-pub use Rattle.x86_operands.specs.declared.letters.Letter.{Letter}
-pub use Rattle.x86_operands.specs.declared.letters.Letters.{Letters}
-pub use Rattle.x86_operands.specs.declared.letters.RowSize.{RowSize}
+pub use Rattle.x86_operands.specs.declared.rows.RowSize.{RowSize}
 pub use Rattle.x86_operands.specs.declared.rows.Rm.{Rm}
 pub use Rattle.x86_operands.specs.declared.rows.Names.{Names}
 pub use Rattle.x86_operands.specs.declared.rows.FormRow.{FormRow}
-pub use Rattle.x86_operands.specs.declared.letters.RowSize.TheVariants.{Bytes, Of}
+pub use Rattle.x86_operands.specs.declared.rows.RowSize.TheVariants.{Bytes, Of}
 pub use Rattle.x86_operands.specs.declared.rows.Names.TheVariants.{Own, Name}

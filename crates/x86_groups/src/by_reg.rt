@@ -7,7 +7,6 @@ ghost use Rattle.x86_groups.specs.Groups.{Chooses, has_either_form};
 use crate::tables::REG_LINES;
 use x86_fields::ModRM;
 use x86_opcodes::Opcode;
-use x86_operands::rows::named;
 use x86_operands::{FormEncoding, RegGroup};
 
 /// What a reg chooses: the number of the operation, and the encoding of its operands.
@@ -50,5 +49,6 @@ pub fn chosen(group: RegGroup, modrm: ModRM) -> (Opcode, &'static FormEncoding)
         has_either_form result.1.now.after_opcode ≡ true }
 {
     let line = &REG_LINES[group as usize][modrm.reg_field() as usize];
-    (named(line.number), &line.encoding)
+    let opcode = Opcode::from_number(line.number as u64).unwrap_or(Opcode::Invalid);
+    (opcode, &line.encoding)
 }

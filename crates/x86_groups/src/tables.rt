@@ -10,40 +10,35 @@ use crate::by_reg::{RegLine, line, rows_alone};
 use x86_fields::Width::{B, D, Dq, Q, V, Vq, W, X};
 use x86_forms::Form;
 use x86_operands::AfterOpcode::ByPlan;
-use x86_operands::letters::Letter;
-use x86_operands::letters::Letter::{Cr, Dr, E, Emm, G, Gmm, Jv, M, RdInReg, StRm, U, Umm, X8};
-use x86_operands::letters::Letters::{Four, One, Three, Two, Zero};
-use x86_operands::letters::RowSize::{Bytes, Of};
-use x86_operands::plans::{ModrmUse, RegisterSlot};
+use x86_operands::plans::OperandEncoding::{
+    ConstantI8, Cr, Dr, E, Emm, G, Gmm, I8, Implied, Iv, Jv, M, RdInReg, StRm, U, U8, Umm, X8,
+};
+use x86_operands::plans::OperandEncodings::{Four, One, Three, Two, Zero};
+use x86_operands::plans::{ModrmUse, OperandEncoding, RegisterSlot};
 use x86_operands::rows::Names::{ByReg, ByRm, Name, Own};
+use x86_operands::rows::RowSize::{Bytes, Of};
 use x86_operands::rows::When::{Always, F2, F3, NoPrefix, NoRepeat, Only66, RexR, RexW, With66};
 use x86_operands::rows::{FormRow, Reg, Rm};
-use x86_operands::{Last, Size, encoded, other, read, refusal, suffixed};
+use x86_operands::{Size, encoded, other, read, refusal, suffixed};
 use x86_regs::RegisterClass;
 
-const I8: Letter = Letter::Last(Last::I8);
+const SIGNED_ONE: OperandEncoding = ConstantI8(1);
 
-const IV: Letter = Letter::Last(Last::Iv);
+const CL: OperandEncoding = Implied(RegisterSlot::Reg, 1, RegisterClass::B);
 
-const SIGNED_ONE: Letter = Letter::Last(Last::SignedOne);
+const RAX: OperandEncoding = Implied(RegisterSlot::Reg, 0, RegisterClass::Q);
 
-const U8: Letter = Letter::Last(Last::U8);
+const EAX: OperandEncoding = Implied(RegisterSlot::Reg, 0, RegisterClass::D);
 
-const CL: Letter = Letter::Implied(RegisterSlot::Reg, 1, RegisterClass::B);
+const ECX: OperandEncoding = Implied(RegisterSlot::Reg, 1, RegisterClass::D);
 
-const RAX: Letter = Letter::Implied(RegisterSlot::Reg, 0, RegisterClass::Q);
+const ST0: OperandEncoding = Implied(RegisterSlot::Reg, 0, RegisterClass::ST);
 
-const EAX: Letter = Letter::Implied(RegisterSlot::Reg, 0, RegisterClass::D);
+const ECX_IN_RM: OperandEncoding = Implied(RegisterSlot::Rm, 1, RegisterClass::D);
 
-const ECX: Letter = Letter::Implied(RegisterSlot::Reg, 1, RegisterClass::D);
+const EDX_IN_RM: OperandEncoding = Implied(RegisterSlot::Rm, 2, RegisterClass::D);
 
-const ST0: Letter = Letter::Implied(RegisterSlot::Reg, 0, RegisterClass::ST);
-
-const ECX_IN_RM: Letter = Letter::Implied(RegisterSlot::Rm, 1, RegisterClass::D);
-
-const EDX_IN_RM: Letter = Letter::Implied(RegisterSlot::Rm, 2, RegisterClass::D);
-
-const ECX_THIRD: Letter = Letter::Implied(RegisterSlot::Third, 1, RegisterClass::D);
+const ECX_THIRD: OperandEncoding = Implied(RegisterSlot::Third, 1, RegisterClass::D);
 
 const ROWS_F30F38D8: &[FormRow; 4] = &[
     read!(Memory Reg::Any, Rm::Any; Always; ByReg([424, 420, 0, 0, 0, 0, 0, 0]); One(M); Bytes(48); Bytes(48)), // AESENCWIDE128KL AESDECWIDE128KL - - - - - -
@@ -269,7 +264,7 @@ const ROWS_80: &[FormRow; 1] = &[
 ];
 
 const ROWS_81: &[FormRow; 1] = &[
-    read!(Either Reg::Any, Rm::Any; Always; ByReg([1, 2, 3, 4, 5, 6, 7, 8]); Two(E(V), IV); Of(Size::V); Of(Size::V)), // ADD OR ADC SBB AND SUB XOR CMP
+    read!(Either Reg::Any, Rm::Any; Always; ByReg([1, 2, 3, 4, 5, 6, 7, 8]); Two(E(V), Iv); Of(Size::V); Of(Size::V)), // ADD OR ADC SBB AND SUB XOR CMP
 ];
 
 const ROWS_83: &[FormRow; 1] = &[
@@ -313,7 +308,7 @@ const ROWS_C6: &[FormRow; 3] = &[
 ];
 
 const ROWS_C7: &[FormRow; 3] = &[
-    read!(Either Reg::Is(0), Rm::Any; Always; Name(33); Two(E(V), IV); Of(Size::V); Of(Size::V)), // MOV
+    read!(Either Reg::Is(0), Rm::Any; Always; Name(33); Two(E(V), Iv); Of(Size::V); Of(Size::V)), // MOV
     read!(Register Reg::Any, Rm::Is(0); Always; Name(675); One(Jv); Of(Size::V); Of(Size::V)), // XBEGIN
     refusal!(Either Reg::Any, Rm::Any; Always; Zero; BadOperand AfterAddress),
 ];
@@ -324,7 +319,7 @@ const ROWS_F6: &[FormRow; 2] = &[
 ];
 
 const ROWS_F7: &[FormRow; 2] = &[
-    read!(Either Reg::Any, Rm::Any; Always; ByReg([31, 31, 0, 0, 0, 0, 0, 0]); Two(E(V), IV); Of(Size::V); Of(Size::V)), // TEST TEST - - - - - -
+    read!(Either Reg::Any, Rm::Any; Always; ByReg([31, 31, 0, 0, 0, 0, 0, 0]); Two(E(V), Iv); Of(Size::V); Of(Size::V)), // TEST TEST - - - - - -
     read!(Either Reg::Any, Rm::Any; Always; ByReg([0, 0, 574, 573, 570, 12, 444, 546]); One(E(V)); Of(Size::V); Of(Size::V)), // - - NOT NEG MUL IMUL DIV IDIV
 ];
 
@@ -495,68 +490,68 @@ pub(crate) const REG_LINES: &[[RegLine; 8]; 15] = &[
         rows_alone!(),
     ], // C7
     [
-        line!(624 EitherForm E_I B B SignedOne One One), // ROL
-        line!(625 EitherForm E_I B B SignedOne One One), // ROR
-        line!(612 EitherForm E_I B B SignedOne One One), // RCL
-        line!(613 EitherForm E_I B B SignedOne One One), // RCR
-        line!(637 EitherForm E_I B B SignedOne One One), // SHL
-        line!(638 EitherForm E_I B B SignedOne One One), // SHR
-        line!(627 EitherForm E_I B B SignedOne One One), // SAL
-        line!(628 EitherForm E_I B B SignedOne One One), // SAR
+        line!(624 EitherForm E_I B B SIGNED_ONE One One), // ROL
+        line!(625 EitherForm E_I B B SIGNED_ONE One One), // ROR
+        line!(612 EitherForm E_I B B SIGNED_ONE One One), // RCL
+        line!(613 EitherForm E_I B B SIGNED_ONE One One), // RCR
+        line!(637 EitherForm E_I B B SIGNED_ONE One One), // SHL
+        line!(638 EitherForm E_I B B SIGNED_ONE One One), // SHR
+        line!(627 EitherForm E_I B B SIGNED_ONE One One), // SAL
+        line!(628 EitherForm E_I B B SIGNED_ONE One One), // SAR
     ], // D0
     [
-        line!(624 EitherForm E_I B V SignedOne V V), // ROL
-        line!(625 EitherForm E_I B V SignedOne V V), // ROR
-        line!(612 EitherForm E_I B V SignedOne V V), // RCL
-        line!(613 EitherForm E_I B V SignedOne V V), // RCR
-        line!(637 EitherForm E_I B V SignedOne V V), // SHL
-        line!(638 EitherForm E_I B V SignedOne V V), // SHR
-        line!(627 EitherForm E_I B V SignedOne V V), // SAL
-        line!(628 EitherForm E_I B V SignedOne V V), // SAR
+        line!(624 EitherForm E_I B V SIGNED_ONE V V), // ROL
+        line!(625 EitherForm E_I B V SIGNED_ONE V V), // ROR
+        line!(612 EitherForm E_I B V SIGNED_ONE V V), // RCL
+        line!(613 EitherForm E_I B V SIGNED_ONE V V), // RCR
+        line!(637 EitherForm E_I B V SIGNED_ONE V V), // SHL
+        line!(638 EitherForm E_I B V SIGNED_ONE V V), // SHR
+        line!(627 EitherForm E_I B V SIGNED_ONE V V), // SAL
+        line!(628 EitherForm E_I B V SIGNED_ONE V V), // SAR
     ], // D1
     [
-        line!(624 EitherForm E_I B B Cl One One), // ROL
-        line!(625 EitherForm E_I B B Cl One One), // ROR
-        line!(612 EitherForm E_I B B Cl One One), // RCL
-        line!(613 EitherForm E_I B B Cl One One), // RCR
-        line!(637 EitherForm E_I B B Cl One One), // SHL
-        line!(638 EitherForm E_I B B Cl One One), // SHR
-        line!(627 EitherForm E_I B B Cl One One), // SAL
-        line!(628 EitherForm E_I B B Cl One One), // SAR
+        line!(624 EitherForm E_I B B CL One One), // ROL
+        line!(625 EitherForm E_I B B CL One One), // ROR
+        line!(612 EitherForm E_I B B CL One One), // RCL
+        line!(613 EitherForm E_I B B CL One One), // RCR
+        line!(637 EitherForm E_I B B CL One One), // SHL
+        line!(638 EitherForm E_I B B CL One One), // SHR
+        line!(627 EitherForm E_I B B CL One One), // SAL
+        line!(628 EitherForm E_I B B CL One One), // SAR
     ], // D2
     [
-        line!(624 EitherForm E_I B V Cl V V), // ROL
-        line!(625 EitherForm E_I B V Cl V V), // ROR
-        line!(612 EitherForm E_I B V Cl V V), // RCL
-        line!(613 EitherForm E_I B V Cl V V), // RCR
-        line!(637 EitherForm E_I B V Cl V V), // SHL
-        line!(638 EitherForm E_I B V Cl V V), // SHR
-        line!(627 EitherForm E_I B V Cl V V), // SAL
-        line!(628 EitherForm E_I B V Cl V V), // SAR
+        line!(624 EitherForm E_I B V CL V V), // ROL
+        line!(625 EitherForm E_I B V CL V V), // ROR
+        line!(612 EitherForm E_I B V CL V V), // RCL
+        line!(613 EitherForm E_I B V CL V V), // RCR
+        line!(637 EitherForm E_I B V CL V V), // SHL
+        line!(638 EitherForm E_I B V CL V V), // SHR
+        line!(627 EitherForm E_I B V CL V V), // SAL
+        line!(628 EitherForm E_I B V CL V V), // SAR
     ], // D3
     [
         line!(31 EitherForm E_I B B I8 One One), // TEST
         line!(31 EitherForm E_I B B I8 One One), // TEST
-        line!(574 EitherForm E B B Absent One One), // NOT
-        line!(573 EitherForm E B B Absent One One), // NEG
-        line!(570 EitherForm E B B Absent One One), // MUL
-        line!(12 EitherForm E B B Absent One One), // IMUL
-        line!(444 EitherForm E B B Absent One One), // DIV
-        line!(546 EitherForm E B B Absent One One), // IDIV
+        line!(574 EitherForm E B B ABSENT One One), // NOT
+        line!(573 EitherForm E B B ABSENT One One), // NEG
+        line!(570 EitherForm E B B ABSENT One One), // MUL
+        line!(12 EitherForm E B B ABSENT One One), // IMUL
+        line!(444 EitherForm E B B ABSENT One One), // DIV
+        line!(546 EitherForm E B B ABSENT One One), // IDIV
     ], // F6
     [
         line!(31 EitherForm E_I B V Iv V V), // TEST
         line!(31 EitherForm E_I B V Iv V V), // TEST
-        line!(574 EitherForm E B V Absent V V), // NOT
-        line!(573 EitherForm E B V Absent V V), // NEG
-        line!(570 EitherForm E B V Absent V V), // MUL
-        line!(12 EitherForm E B V Absent V V), // IMUL
-        line!(444 EitherForm E B V Absent V V), // DIV
-        line!(546 EitherForm E B V Absent V V), // IDIV
+        line!(574 EitherForm E B V ABSENT V V), // NOT
+        line!(573 EitherForm E B V ABSENT V V), // NEG
+        line!(570 EitherForm E B V ABSENT V V), // MUL
+        line!(12 EitherForm E B V ABSENT V V), // IMUL
+        line!(444 EitherForm E B V ABSENT V V), // DIV
+        line!(546 EitherForm E B V ABSENT V V), // IDIV
     ], // F7
     [
-        line!(547 EitherForm E B B Absent One One), // INC
-        line!(443 EitherForm E B B Absent One One), // DEC
+        line!(547 EitherForm E B B ABSENT One One), // INC
+        line!(443 EitherForm E B B ABSENT One One), // DEC
         rows_alone!(),
         rows_alone!(),
         rows_alone!(),
@@ -565,13 +560,13 @@ pub(crate) const REG_LINES: &[[RegLine; 8]; 15] = &[
         rows_alone!(),
     ], // FE
     [
-        line!(547 EitherForm E B V Absent V V), // INC
-        line!(443 EitherForm E B V Absent V V), // DEC
-        line!(58 EitherForm E B Q Absent Eight Eight), // CALL
+        line!(547 EitherForm E B V ABSENT V V), // INC
+        line!(443 EitherForm E B V ABSENT V V), // DEC
+        line!(58 EitherForm E B Q ABSENT Eight Eight), // CALL
         rows_alone!(),
-        line!(54 EitherForm E B Q Absent Eight V), // JMP
+        line!(54 EitherForm E B Q ABSENT Eight V), // JMP
         rows_alone!(),
-        line!(9 EitherForm E B V Absent Vq Vq), // PUSH
+        line!(9 EitherForm E B V ABSENT Vq Vq), // PUSH
         rows_alone!(),
     ], // FF
 ];

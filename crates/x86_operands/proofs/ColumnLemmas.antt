@@ -4,17 +4,17 @@ use Rattle.std.specs.List.{list_all, list_any}
 use Rattle.std.proofs.lemmas.Bool.{and_parts, or_cases, and_left}
 use Rattle.std.proofs.lemmas.Bool.Decides.{nat_tests}
 use Rattle.x86_fields.specs.Pieces.{total}
-use Rattle.x86_operands.specs.Vocabulary.{Prefixes, Width, Last, Size, TableRow, BadOpcode, AtModRM, reg_field, is_memory, class_of, RegisterClass, Fault, Incomplete, Moment, Verdict, Refuses, Plan, OperandEncodings, width_of, has_r, has_w, repnz, rep}
-use Rattle.x86_operands.specs.RowVocabulary.{Letter, Letters, RowSize, Bytes, Of, Names, FormRow, Place, Register, Reg, When, Rm, ByRm}
+use Rattle.x86_operands.specs.Vocabulary.{Prefixes, Size, OperandEncoding, TableRow, BadOpcode, AtModRM, reg_field, is_memory, RegisterClass, Fault, Incomplete, Moment, Verdict, Refuses, Plan, OperandEncodings, width_of, has_r, has_w, repnz, rep}
+use Rattle.x86_operands.specs.RowVocabulary.{RowSize, Bytes, Of, Names, FormRow, Place, Register, Reg, When, Rm, ByRm}
 use Rattle.x86_operands.specs.Words.{otherwise}
-use Rattle.x86_operands.specs.Plans.{is_refusal}
-use Rattle.x86_operands.specs.declared.encodings.Last.TheVariants as last
+use Rattle.x86_forms.specs.Words.{carried}
+use Rattle.x86_operands.specs.Plans.{is_refusal, list_of}
+use Rattle.x86_operands.specs.Pieces.{is_modrm_encoding}
 use Rattle.x86_operands.specs.declared.encodings.Size.TheVariants as size
-use Rattle.x86_operands.specs.declared.letters.Letter.TheVariants as letter
-use Rattle.x86_operands.specs.declared.letters.Letters.TheVariants as letters
+use Rattle.x86_operands.specs.declared.plans.OperandEncoding.TheVariants as encoding
 use Rattle.x86_operands.specs.Asks.{immediate_width, immediates_width}
-use Rattle.x86_operands.specs.Encodings.{last_encoding, size_bytes}
-use Rattle.x86_operands.specs.Columns.{choose, letter_encoding, operand_encodings, row_bytes, opcode_of, plan_of_row, is_there, is_placed, is_reg, is_rm, is_prefixed, is_named}
+use Rattle.x86_operands.specs.Encodings.{all_settled, settled, size_bytes}
+use Rattle.x86_operands.specs.Columns.{choose, row_bytes, opcode_of, plan_of_row, is_there, is_placed, is_reg, is_rm, is_prefixed, is_named}
 use Rattle.x86_operands.specs.declared.rows.Rm.TheVariants as rms
 use Rattle.x86_operands.specs.declared.rows.When.TheVariants as when
 
@@ -140,55 +140,34 @@ without_gap plan w h e =
     let gap : has_gap plan.verdict ≡ true = ap has_gap e in
     grind arith
 
-abbrev pub letters_list : Letters → List Letter
-letters_list letters.Zero = []
-letters_list (letters.One a) = a ∷ []
-letters_list (letters.Two a b) = a ∷ b ∷ []
-letters_list (letters.Three a b c) = a ∷ b ∷ c ∷ []
-letters_list (letters.Four a b c d) = a ∷ b ∷ c ∷ d ∷ []
-
 -- ---- sizes, immediates and gaps
 
 abbrev pub small_bytes : RowSize → Bool
 small_bytes (Bytes n) = nat_lt n 65
 small_bytes size = true
 
--- how many bytes of immediate a letter has at most
-abbrev most_of_last : Last → ℕ
-most_of_last last.I8 = 1
-most_of_last last.U8 = 1
-most_of_last last.U16 = 2
-most_of_last last.I32 = 4
-most_of_last last.Iv = 4
-most_of_last last.Ivq = 8
-most_of_last last.Ip = 4
-most_of_last l = 0
+-- how many bytes of immediate an operand of a row has at most in a plan
+abbrev pub most : OperandEncoding → ℕ
+most encoding.Iv = 4
+most encoding.Ivq = 8
+most encoding.Ip = 4
+most encoding.Jv = 4
+most encoding.Offset = 8
+most s = immediate_width s
 
-abbrev pub most : Letter → ℕ
-most (letter.Last l) = most_of_last l
-most letter.X8 = 1
-most letter.X16 = 2
-most letter.Jv = 4
-most letter.Offset = 8
-most l = 0
-
-abbrev pub few : Letters → Bool
-few operands = nat_lt (total (map most (letters_list operands))) 9
+abbrev pub few : OperandEncodings → Bool
+few operands = nat_lt (total (map most (list_of operands))) 9
 
 -- no gap, unless gaps are passed, small sizes, and few immediates
 abbrev pub row_fits : Bool → FormRow → Bool
 row_fits gaps row = (gaps || not (has_gap row.verdict)) && (small_bytes row.in_memory && (small_bytes row.in_register && few row.operands))
 
-last_most : (l : Last) (p : Prefixes) → immediate_width (last_encoding l p) ≤ most_of_last l
-last_most l p = grind arith
+settled_most : (s : OperandEncoding) (n : ℕ) (p : Prefixes) → immediate_width (settled s n p) ≤ most s
+settled_most s n p = grind arith
 
-encoding_most : (l : Letter) (own : TableRow) (p : Prefixes) (m : ℕ) → immediate_width (letter_encoding l own p m) ≤ most l
-encoding_most (letter.Last l) own p m = last_most l p
-encoding_most l own p m = grind arith
-
-encodings_narrow : (operands : Letters) (own : TableRow) (p : Prefixes) (m : ℕ) → few operands ≡ true → narrow (operand_encodings operands own p m) ≡ true
+settled_narrow : (operands : OperandEncodings) (n : ℕ) (p : Prefixes) → few operands ≡ true → narrow (all_settled operands n p) ≡ true
 unfolding narrow
-encodings_narrow operands own p m h = grind (arith, nat_tests, encoding_most)
+settled_narrow operands n p h = grind (arith, nat_tests, settled_most)
 
 bytes_small : (s : RowSize) (o : ℕ) (p : Prefixes) → small_bytes s ≡ true → nat_lt (row_bytes s o p) 65 ≡ true
 bytes_small (Bytes n) o p h = h
@@ -201,7 +180,7 @@ row_passes gaps row own p m h =
     let sizes = and_parts (gaps || not (has_gap row.verdict)) _ h in
     let register = and_parts (small_bytes row.in_memory) _ sizes.1 in
     let operands = and_parts (small_bytes row.in_register) _ register.1 in
-    rw (sizes.0, small_if (is_memory m) _ _ (bytes_small row.in_memory own.opcode p register.0) (bytes_small row.in_register own.opcode p operands.0), encodings_narrow row.operands own p m operands.1) refl
+    rw (sizes.0, small_if (is_memory m) _ _ (bytes_small row.in_memory own.opcode p register.0) (bytes_small row.in_register own.opcode p operands.0), settled_narrow row.operands (carried own.form) p operands.1) refl
 
 -- the plan of the first of rows that fit
 pub rows_pass : (gaps : Bool) (rows : List FormRow) (own : TableRow) (strict : Bool) (p : Prefixes) (m : ℕ) → list_all (row_fits gaps) rows ≡ true → passes gaps (plan_of_row (choose rows own strict p m) own p m) ≡ true
@@ -211,22 +190,16 @@ rows_pass gaps rows own strict p m h =
 
 -- ---- two ModRM bytes of the memory form that have the same reg, under prefixes that differ in X and B alone
 
-abbrev pub rm_free_letter : Letter → Bool
-rm_free_letter letter.StRm = false
-rm_free_letter letter.RdInReg = false
-rm_free_letter (letter.Z at w) = false
-rm_free_letter (letter.A w) = false
-rm_free_letter l = true
-
-abbrev pub is_memory_letter : Letter → Bool
-is_memory_letter (letter.E w) = true
-is_memory_letter letter.M = true
-is_memory_letter letter.Emm = true
-is_memory_letter l = false
+abbrev pub rm_free_encoding : OperandEncoding → Bool
+rm_free_encoding encoding.StRm = false
+rm_free_encoding encoding.RdInReg = false
+rm_free_encoding (encoding.Z at w n) = false
+rm_free_encoding (encoding.A w) = false
+rm_free_encoding s = true
 
 -- nothing of it goes by rm, X or B; and it refuses, or has a memory operand
 abbrev pub in_memory : FormRow → Bool
-in_memory row = no_rm_names row.names && (list_all rm_free_letter (letters_list row.operands) && (is_refusal row.verdict || list_any is_memory_letter (letters_list row.operands)))
+in_memory row = no_rm_names row.names && (list_all rm_free_encoding (list_of row.operands) && (is_refusal row.verdict || list_any is_modrm_encoding (list_of row.operands)))
 
 abbrev pub row_in_memory : FormRow → Bool
 row_in_memory row = is_register row.at.place || in_memory row
@@ -235,41 +208,16 @@ row_in_memory row = is_register row.at.place || in_memory row
 abbrev pub keeps_reg : FormRow → Bool
 keeps_reg row = rm_free row && row_in_memory row
 
-class_alike : (w : Width) (p q : Prefixes) → SamePrefixes p q → class_of w p ≡ class_of w q
-class_alike w p q h = grind arith
+settled_alike : (s : OperandEncoding) (n : ℕ) (p q : Prefixes) → SamePrefixes p q → settled s n p ≡ settled s n q
+settled_alike s n p q h = grind arith
 
-last_alike : (l : Last) (p q : Prefixes) → SamePrefixes p q → last_encoding l p ≡ last_encoding l q
-last_alike l p q h = grind arith
+all_settled_alike : (operands : OperandEncodings) (n : ℕ) (p q : Prefixes) → SamePrefixes p q → all_settled operands n p ≡ all_settled operands n q
+all_settled_alike operands n p q h = grind (arith, settled_alike)
 
 size_alike : (s : Size) (o : ℕ) (p q : Prefixes) → SamePrefixes p q → size_bytes s o p ≡ size_bytes s o q
 size_alike s o p q h = grind arith
 
--- letters that are the same in two places make the same operands
-module _ (test : Letter → Bool) (a b : TableRow) (p q : Prefixes) (m n : ℕ) (same : (l : Letter) → test l ≡ true → letter_encoding l a p m ≡ letter_encoding l b q n) where
-  first_same : (l : Letter) (rest : Bool) → (test l && rest) ≡ true → letter_encoding l a p m ≡ letter_encoding l b q n
-  first_same l rest e = same l (and_parts (test l) rest e).0
-
-  following : (l : Letter) (rest : Bool) → (test l && rest) ≡ true → rest ≡ true
-  following l rest e = (and_parts (test l) rest e).1
-
-  pub operands_same : (operands : Letters) → list_all test (letters_list operands) ≡ true → operand_encodings operands a p m ≡ operand_encodings operands b q n
-  operands_same letters.Zero e = refl
-  operands_same (letters.One x) e = rw (first_same x _ e) refl
-  operands_same (letters.Two x y) e = rw (first_same x _ e, first_same y _ (following x _ e)) refl
-  operands_same (letters.Three x y z) e = let f = following x _ e in rw (first_same x _ e, first_same y _ f, first_same z _ (following y _ f)) refl
-  operands_same (letters.Four x y z w) e =
-      let f = following x _ e in
-      let g = following y _ f in
-      rw (first_same x _ e, first_same y _ f, first_same z _ g, first_same w _ (following z _ g)) refl
-
 module _ (own : TableRow) (p q : Prefixes) (m n : ℕ) (h : SamePrefixes p q) where
-  encoding_alike : (l : Letter) → rm_free_letter l ≡ true → letter_encoding l own p m ≡ letter_encoding l own q n
-  encoding_alike (letter.Last l) e = last_alike l p q h
-  encoding_alike l e = grind (arith, class_alike)
-
-  encodings_alike : (operands : Letters) → list_all rm_free_letter (letters_list operands) ≡ true → operand_encodings operands own p m ≡ operand_encodings operands own q n
-  encodings_alike = operands_same rm_free_letter own own p q m n encoding_alike
-
   bytes_alike : (s : RowSize) (o : ℕ) → row_bytes s o p ≡ row_bytes s o q
   bytes_alike (Of s) o = size_alike s o p q h
   bytes_alike s o = refl
@@ -280,8 +228,7 @@ module _ (own : TableRow) (p q : Prefixes) (m n : ℕ) (h : SamePrefixes p q) wh
   pub plan_alike : (row : FormRow) → reg_field m ≡ reg_field n → is_memory m ≡ is_memory n → in_memory row ≡ true → plan_of_row row own p m ≡ plan_of_row row own q n
   plan_alike row same mem e =
       let x = and_parts (no_rm_names row.names) _ e in
-      let y = and_parts (list_all rm_free_letter (letters_list row.operands)) _ x.1 in
-      rw (opcode_alike row.names same x.0, encodings_alike row.operands y.0, bytes_alike row.in_memory own.opcode, bytes_alike row.in_register own.opcode, mem) refl
+      rw (opcode_alike row.names same x.0, all_settled_alike row.operands (carried own.form) p q h, bytes_alike row.in_memory own.opcode, bytes_alike row.in_register own.opcode, mem) refl
 
 -- in the memory form the first row refuses, or has a memory operand
 pub first_in_memory : (rows : List FormRow) (own : TableRow) (strict : Bool) (p : Prefixes) (m : ℕ) → list_all keeps_reg rows ≡ true → is_memory m ≡ true → in_memory (choose rows own strict p m) ≡ true

@@ -1,14 +1,14 @@
 -- What an encoding writes in place is what its plan yields.
 use Rattle.std.proofs.Common.{◌≡◌, ℕ, Bool, true, false, if◌then◌else◌, ◌≢◌, refl, ap, ◌∙◌, Ok, Err, Result, None, Some, Option, arith}
 use Rattle.x86_arch.specs.Reader.{State}
-use Rattle.x86_operands.specs.Vocabulary.{DecodeError, Prefixes, Raw, Slot, Operand, OperandEncoding, OperandEncodings, Position, Nowhere, Order, AfterOpcode, Width, Last, FormEncoding, Reading, Operands, is_memory, absent_modrm, class_of, register_of, reg_spec, rm_field}
+use Rattle.x86_operands.specs.Vocabulary.{DecodeError, Prefixes, Raw, Slot, Operand, OperandEncoding, OperandEncodings, Position, Nowhere, Order, AfterOpcode, Width, FormEncoding, Reading, Operands, is_memory, absent_modrm, class_of, register_of, reg_spec, rm_field}
 use Rattle.x86_fields.specs.declared.sizes.Width.TheVariants as width
 use Rattle.x86_regs.specs.declared.RegisterClass.TheVariants as class
 use Rattle.x86_fields.specs.Steps.{Step, Outcome, outcome, then_from, pure, ◌>>=◌}
 use Rattle.x86_operands.specs.PlanSteps.{read_plan, read_memory, filled_step, operands_step, operand_step, reading_from, known_operand, memory_or}
 use Rattle.x86_operands.specs.Plans.{list_of, reads, rm_number}
 use Rattle.x86_operands.specs.Operands.{shape}
-use Rattle.x86_operands.specs.Encodings.{index_of_position, last_encoding, somewhere, reg_encoding, rm_encoding, encodings_in, plan_of, size_bytes, size_at, is_order, has_modrm, has_register, order_fits, allows}
+use Rattle.x86_operands.specs.Encodings.{index_of_position, is_last, settled, somewhere, reg_encoding, rm_encoding, encodings_in, plan_of, size_bytes, size_at, is_order, has_modrm, has_register, order_fits, allows}
 use Rattle.x86_operands.specs.OperandList.{encoded_read, put_encoded, put_in, placed, reg_pair, fixed_pair, reading_with, sized, last_read, operands_read}
 use Rattle.x86_operands.proofs.OrderLemmas.{Named, no_named, named_of, accepted, no_memory, no_modrm}
 
@@ -17,11 +17,11 @@ Pair = Slot × Operand
 
 -- ---- operand encodings that read nothing
 
-reg_yields : (b : AfterOpcode) (w : Width) (n : ℕ) (p : Prefixes) (m : ℕ) (memory : Option Raw) (s : State ℕ) → operand_step (reg_encoding b w n p) p m memory s ≡ outcome (Ok (known_operand (reg_encoding b w n p) p m memory)) s
+reg_yields : (b : AfterOpcode) (w : Width) (n : ℕ) (p : Prefixes) (m : ℕ) (memory : Option Raw) (s : State ℕ) → operand_step (reg_encoding b w n) p m memory s ≡ outcome (Ok (known_operand (reg_encoding b w n) p m memory)) s
 unfolding operand_step
 reg_yields b w n p m memory s = grind arith
 
-rm_yields : (b : AfterOpcode) (w : Width) (p : Prefixes) (m : ℕ) (memory : Option Raw) (s : State ℕ) → operand_step (rm_encoding b w p) p m memory s ≡ outcome (Ok (known_operand (rm_encoding b w p) p m memory)) s
+rm_yields : (b : AfterOpcode) (w : Width) (p : Prefixes) (m : ℕ) (memory : Option Raw) (s : State ℕ) → operand_step (rm_encoding b w) p m memory s ≡ outcome (Ok (known_operand (rm_encoding b w) p m memory)) s
 unfolding operand_step
 rm_yields b w p m memory s = grind arith
 
@@ -30,9 +30,9 @@ rm_yields b w p m memory s = grind arith
 abbrev IsPlain : OperandEncoding → Type 0
 IsPlain c = (p : Prefixes) (m : ℕ) (memory : Option Raw) (s : State ℕ) → operand_step c p m memory s ≡ operand_step c p absent_modrm None s
 
-last_plain : (l : Last) (p : Prefixes) → IsPlain (last_encoding l p)
+last_plain : (l : OperandEncoding) (p : Prefixes) → is_last l ≡ true → IsPlain (settled l 0 p)
 unfolding operand_step
-last_plain l p q m memory s = grind arith
+last_plain l p h q m memory s = grind arith
 
 -- ---- the operands in their order
 
@@ -51,20 +51,20 @@ in_order (Ok z) no_named t a b c x y size opcode p m memory ha hb s hc = refl
 in_order (Err e) no_named t a b c x y size opcode p m memory ha hb s hc = refl
 in_order r h t a b c x y size opcode p m memory ha hb s hc = simp (ha, hb, hc)
 
-last_is : (at : Position) (l : Last) (p : Prefixes) (operand_list : Operands) (s : State ℕ) → last_put at (operand_step (last_encoding l p) p absent_modrm None s).answer (operand_step (last_encoding l p) p absent_modrm None s).after operand_list s ≡ last_read at l p operand_list s
+last_is : (at : Position) (l : OperandEncoding) (p : Prefixes) (operand_list : Operands) (s : State ℕ) → last_put at (operand_step (settled l 0 p) p absent_modrm None s).answer (operand_step (settled l 0 p) p absent_modrm None s).after operand_list s ≡ last_read at l p operand_list s
 last_is at l p operand_list s = grind arith
 
 -- ---- the whole encoding
 
 module _ (e : FormEncoding) (n opcode : ℕ) (p : Prefixes) (m : ℕ) where
   abbrev reg : OperandEncoding
-  reg = reg_encoding e.after_opcode e.reg n p
+  reg = reg_encoding e.after_opcode e.reg n
 
   abbrev rm : OperandEncoding
-  rm = rm_encoding e.after_opcode e.rm p
+  rm = rm_encoding e.after_opcode e.rm
 
   abbrev last : OperandEncoding
-  last = last_encoding e.last p
+  last = settled e.last 0 p
 
   abbrev encodings : OperandEncodings
   encodings = encodings_in e.order reg rm last
@@ -82,11 +82,11 @@ module _ (e : FormEncoding) (n opcode : ℕ) (p : Prefixes) (m : ℕ) where
   finished step = (step >>= last_read e.order.last e.last p) >>= λ x. pure (reading_with opcode p x)
 
   -- the operands after memory
-  following : is_order e.order ≡ true → (r : Result (Option Raw) DecodeError) (s : State ℕ) → then_from r s planned ≡ finished ((λ _. outcome r s) >>= λ memory. pure (written memory)) s
-  following h (Err x) s = refl
-  following h (Ok memory) s =
+  following : is_order e.order ≡ true → is_last e.last ≡ true → (r : Result (Option Raw) DecodeError) (s : State ℕ) → then_from r s planned ≡ finished ((λ _. outcome r s) >>= λ memory. pure (written memory)) s
+  following h l (Err x) s = refl
+  following h l (Ok memory) s =
       let end : Outcome Pair = operand_step last p absent_modrm None s in
-      in_order end.answer (named_of e.order.reg e.order.rm e.order.last e.order.count h) end.after reg rm last (known_operand reg p m memory) (known_operand rm p m memory) size opcode p m memory (reg_yields e.after_opcode e.reg n p m memory) (rm_yields e.after_opcode e.rm p m memory) s (last_plain e.last p p m memory s)
+      in_order end.answer (named_of e.order.reg e.order.rm e.order.last e.order.count h) end.after reg rm last (known_operand reg p m memory) (known_operand rm p m memory) size opcode p m memory (reg_yields e.after_opcode e.reg n p m memory) (rm_yields e.after_opcode e.rm p m memory) s (last_plain e.last p l p m memory s)
       ∙ ap (λ (u : Outcome Operands). then_from u.answer u.after (λ operand_list. pure (reading_with opcode p operand_list))) (last_is e.order.last e.last p (written memory) s)
 
   -- where rm is no operand, no memory is read
@@ -94,14 +94,14 @@ module _ (e : FormEncoding) (n opcode : ℕ) (p : Prefixes) (m : ℕ) where
   memory_by true s i f a = refl
   memory_by false s i f a = rw (no_memory e.after_opcode opcode m (no_modrm e.after_opcode (somewhere e.order.reg) (rw i at f)) a) refl
 
-  pub plan_is_read : (s : State ℕ) → is_order e.order ≡ true → order_fits e.after_opcode e.order ≡ true → allows e.after_opcode opcode m ≡ true →
+  pub plan_is_read : (s : State ℕ) → is_order e.order ≡ true → is_last e.last ≡ true → order_fits e.after_opcode e.order ≡ true → allows e.after_opcode opcode m ≡ true →
       read_plan (plan_of e n opcode p m) p m s ≡ (operands_read e n p m (sized e.order.count size) >>= λ operand_list. pure (reading_with opcode p operand_list)) s
   unfolding read_plan
-  plan_is_read s h f a =
+  plan_is_read s h l f a =
       let memory : Outcome (Option Raw) = (if somewhere e.order.rm then read_memory p m else pure None) s in
       ap (λ plan. read_plan plan p m s) (accepted e.after_opcode m opcode size encodings a)
       ∙ ap (λ (u : Outcome (Option Raw)). then_from u.answer u.after planned) (memory_by (somewhere e.order.rm) s refl f a)
-      ∙ following h memory.answer memory.after
+      ∙ following h l memory.answer memory.after
 
 -- ---- in place
 
@@ -109,18 +109,18 @@ pub encoded_at_position : (at : Position) (n : ℕ) (l : OperandEncoding) (p : P
 encoded_at_position at n l p operand_list s e h = grind arith
 
 -- the operands of reg and rm as their encodings yield them
-pub reg_placed : (b : AfterOpcode) (w : Width) (n : ℕ) (p : Prefixes) (m : ℕ) (memory : Option Raw) → has_modrm b ≡ true → known_operand (reg_encoding b w n p) p m memory ≡ reg_pair w p m
+pub reg_placed : (b : AfterOpcode) (w : Width) (n : ℕ) (p : Prefixes) (m : ℕ) (memory : Option Raw) → has_modrm b ≡ true → known_operand (reg_encoding b w n) p m memory ≡ reg_pair w p m
 reg_placed b w n p m memory h = grind arith
 
-pub fixed_placed : (b : AfterOpcode) (w : Width) (n : ℕ) (p : Prefixes) (m : ℕ) (memory : Option Raw) → has_register b ≡ true → known_operand (reg_encoding b w n p) p m memory ≡ fixed_pair b w n p
+pub fixed_placed : (b : AfterOpcode) (w : Width) (n : ℕ) (p : Prefixes) (m : ℕ) (memory : Option Raw) → has_register b ≡ true → known_operand (reg_encoding b w n) p m memory ≡ fixed_pair b w n p
 fixed_placed b w n p m memory h = grind arith
 
-pub rm_in_memory : (b : AfterOpcode) (w : Width) (p : Prefixes) (m : ℕ) (raw : Raw) → has_modrm b ≡ true → known_operand (rm_encoding b w p) p m (Some raw) ≡ shape raw
+pub rm_in_memory : (b : AfterOpcode) (w : Width) (p : Prefixes) (m : ℕ) (raw : Raw) → has_modrm b ≡ true → known_operand (rm_encoding b w) p m (Some raw) ≡ shape raw
 rm_in_memory b w p m raw h = grind arith
 
 abbrev pub rm_pair : Width → Prefixes → ℕ → Pair
 rm_pair width.Mm p m = memory_or (reg_spec (rm_field m) class.MM) None
 rm_pair w p m = memory_or (register_of (class_of w p) p (rm_number m p)) None
 
-pub rm_in_register : (b : AfterOpcode) (w : Width) (p : Prefixes) (m : ℕ) → has_modrm b ≡ true → ((opcode : ℕ) × (allows b opcode m ≡ true)) → is_memory m ≡ false → known_operand (rm_encoding b w p) p m None ≡ rm_pair w p m
+pub rm_in_register : (b : AfterOpcode) (w : Width) (p : Prefixes) (m : ℕ) → has_modrm b ≡ true → ((opcode : ℕ) × (allows b opcode m ≡ true)) → is_memory m ≡ false → known_operand (rm_encoding b w) p m None ≡ rm_pair w p m
 rm_in_register b w p m h a e = let may = a.1 in grind arith

@@ -14,7 +14,7 @@ use Rattle.x86_forms.proofs.FormLemmas.{up_to_seven}
 use Rattle.x86_operands.specs.declared.encodings.AfterOpcode.TheVariants as after_opcode
 use Rattle.x86_operands.specs.declared.lines.TheConstants.{ENCODINGS}
 use Rattle.x86_operands.specs.Forms.{Belongs, Describes, row_with, form_plan, modrm_use}
-use Rattle.x86_operands.specs.Encodings.{encodings_in, is_described, is_sound, last_encoding, plan_of, reg_encoding, restricted_plan, rm_encoding, size_at, size_bytes, use_of}
+use Rattle.x86_operands.specs.Encodings.{encodings_in, is_described, is_sound, settled, plan_of, reg_encoding, restricted_plan, rm_encoding, size_at, size_bytes, use_of}
 use Rattle.x86_operands.specs.Plans.{reads}
 use Rattle.x86_operands.specs.Rows.{form_rows}
 
@@ -106,13 +106,13 @@ carries_at f n d below e is = lt_of_not-le (λ after.
     absurd cc)
 
 -- the plan of a line looks at the number of the opcode byte only for the register of the opcode byte
-reg_by_number : (b : AfterOpcode) (w : Width) (n k : ℕ) (p : Prefixes) → (b ≡ after_opcode.Opcode → n ≡ k) → reg_encoding b w n p ≡ reg_encoding b w k p
-reg_by_number b w n k p same = grind arith
+reg_by_number : (b : AfterOpcode) (w : Width) (n k : ℕ) → (b ≡ after_opcode.Opcode → n ≡ k) → reg_encoding b w n ≡ reg_encoding b w k
+reg_by_number b w n k same = grind arith
 
 plan_by_number : (e : FormEncoding) (n k o m : ℕ) (p : Prefixes) → (e.after_opcode ≡ after_opcode.Opcode → n ≡ k) → plan_of e n o p m ≡ plan_of e k o p m
 plan_by_number e n k o m p same =
-    ap (λ reg. restricted_plan e.after_opcode m (reads o (encodings_in e.order reg (rm_encoding e.after_opcode e.rm p) (last_encoding e.last p)) (size_bytes (size_at e m) o p)))
-    (reg_by_number e.after_opcode e.reg n k p same)
+    ap (λ reg. restricted_plan e.after_opcode m (reads o (encodings_in e.order reg (rm_encoding e.after_opcode e.rm) (settled e.last 0 p)) (size_bytes (size_at e m) o p)))
+    (reg_by_number e.after_opcode e.reg n k same)
 
 pub numbered_at : (f : Form) (number n : ℕ) (d : FormEncoding) → IsForm f → number ≡ 1 + ordinal_of f → (number < 41 → n ≡ carried f) → (o m : ℕ) (p : Prefixes) → plan_of (get_or ENCODINGS.now number d) n o p m ≡ plan_of (get_or ENCODINGS.now number d) (carried f) o p m
 numbered_at f number n d below e carries o m p =

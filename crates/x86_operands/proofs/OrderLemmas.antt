@@ -1,10 +1,10 @@
 -- The orders of a sound line, and what follows where it accepts.
 use Rattle.std.proofs.Common.{◌≡◌, ℕ, Bool, true, false, not, if◌then◌else◌, IsTrue, arith, sym, ap, ◌∙◌}
-use Rattle.std.proofs.lemmas.Bool.{eqb-true}
+use Rattle.std.proofs.lemmas.Bool.{and_parts, eqb-true}
 use Rattle.x86_operands.specs.Vocabulary.{OperandEncodings, Position, First, Second, Third, Nowhere, Order, AfterOpcode, FormEncoding, is_memory, Prefixes, Ask, Width, ModrmUse, OperandEncoding}
 use Rattle.x86_opcodes.specs.Names.{Invalid}
 use Rattle.x86_operands.specs.Plans.{reads}
-use Rattle.x86_operands.specs.Encodings.{restricted_plan, has_last, is_described, is_sound, is_order_of, is_order, has_modrm, has_register, order_fits, allows, size_bytes, last_encoding, plan_of, reg_encoding, rm_encoding, encodings_in, size_at, somewhere, use_of}
+use Rattle.x86_operands.specs.Encodings.{restricted_plan, is_last, is_described, is_sound, is_order_of, is_order, has_modrm, has_register, order_fits, allows, size_bytes, settled, plan_of, reg_encoding, rm_encoding, encodings_in, size_at, somewhere, use_of}
 use Rattle.x86_operands.specs.Asks.{uses_modrm, immediates_width, plan_ask, encoding_ask, immediate_width}
 
 -- ---- the orders
@@ -49,8 +49,11 @@ no_modrm b register h = grind arith
 
 -- ---- a sound line
 
-pub sound_parts : (e : FormEncoding) → is_sound e ≡ true → (is_order e.order ≡ true) × (order_fits e.after_opcode e.order ≡ true) × (has_last e.order e.last ≡ true)
-sound_parts e h = (grind arith, grind arith, grind arith)
+pub sound_parts : (e : FormEncoding) → is_sound e ≡ true → (is_order e.order ≡ true) × (order_fits e.after_opcode e.order ≡ true) × (is_last e.last ≡ true)
+sound_parts e h =
+    let parts = and_parts (is_order e.order) _ h in
+    let rest = and_parts (order_fits e.after_opcode e.order) (is_last e.last) parts.1 in
+    (parts.0, rest.0, rest.1)
 
 pub allowed_is_described : (b : AfterOpcode) (o m : ℕ) → allows b o m ≡ true → IsTrue (is_described b)
 allowed_is_described b o m h = grind arith
@@ -58,11 +61,11 @@ allowed_is_described b o m h = grind arith
 -- ---- what a line has is what its plan has
 
 -- the operands of reg and rm have no immediate
-reg_width : (b : AfterOpcode) (w : Width) (n : ℕ) (p : Prefixes) → immediate_width (reg_encoding b w n p) ≡ 0
-reg_width b w n p = grind arith
+reg_width : (b : AfterOpcode) (w : Width) (n : ℕ) → immediate_width (reg_encoding b w n) ≡ 0
+reg_width b w n = grind arith
 
-rm_width : (b : AfterOpcode) (w : Width) (p : Prefixes) → immediate_width (rm_encoding b w p) ≡ 0
-rm_width b w p = grind arith
+rm_width : (b : AfterOpcode) (w : Width) → immediate_width (rm_encoding b w) ≡ 0
+rm_width b w = grind arith
 
 -- so the last operand has all of it
 width_in : {o : Order} → Named o → (a b c : OperandEncoding) → immediate_width a ≡ 0 → immediate_width b ≡ 0 → immediates_width (encodings_in o a b c) ≡ (if somewhere o.last then immediate_width c else 0)
@@ -76,10 +79,10 @@ AskWith usage m n = record { modrm = uses_modrm usage; memory = is_memory m; imm
 restricted_ask : (b : AfterOpcode) (usage : ModrmUse) (m opcode size : ℕ) (encodings : OperandEncodings) → plan_ask usage m (restricted_plan b m (reads opcode encodings size)) ≡ AskWith usage m (immediates_width encodings)
 restricted_ask b usage m opcode size encodings = grind arith
 
-pub line_has_ask : (e : FormEncoding) (n opcode : ℕ) (p : Prefixes) (m : ℕ) → is_sound e ≡ true → plan_ask (use_of e.after_opcode) m (plan_of e n opcode p m) ≡ AskWith (use_of e.after_opcode) m (if somewhere e.order.last then immediate_width (last_encoding e.last p) else 0)
+pub line_has_ask : (e : FormEncoding) (n opcode : ℕ) (p : Prefixes) (m : ℕ) → is_sound e ≡ true → plan_ask (use_of e.after_opcode) m (plan_of e n opcode p m) ≡ AskWith (use_of e.after_opcode) m (if somewhere e.order.last then immediate_width (settled e.last 0 p) else 0)
 line_has_ask e n opcode p m h =
-    restricted_ask e.after_opcode (use_of e.after_opcode) m opcode (size_bytes (size_at e m) opcode p) (encodings_in e.order (reg_encoding e.after_opcode e.reg n p) (rm_encoding e.after_opcode e.rm p) (last_encoding e.last p))
-    ∙ ap (AskWith (use_of e.after_opcode) m) (width_in (named_of e.order.reg e.order.rm e.order.last e.order.count (sound_parts e h).0) (reg_encoding e.after_opcode e.reg n p) (rm_encoding e.after_opcode e.rm p) (last_encoding e.last p) (reg_width e.after_opcode e.reg n p) (rm_width e.after_opcode e.rm p))
+    restricted_ask e.after_opcode (use_of e.after_opcode) m opcode (size_bytes (size_at e m) opcode p) (encodings_in e.order (reg_encoding e.after_opcode e.reg n) (rm_encoding e.after_opcode e.rm) (settled e.last 0 p))
+    ∙ ap (AskWith (use_of e.after_opcode) m) (width_in (named_of e.order.reg e.order.rm e.order.last e.order.count (sound_parts e h).0) (reg_encoding e.after_opcode e.reg n) (rm_encoding e.after_opcode e.rm) (settled e.last 0 p) (reg_width e.after_opcode e.reg n) (rm_width e.after_opcode e.rm))
 
 pub encoding_has_ask : (e : FormEncoding) (n opcode : ℕ) (p : Prefixes) (m : ℕ) → is_sound e ≡ true → plan_ask (use_of e.after_opcode) m (plan_of e n opcode p m) ≡ encoding_ask e p m
 encoding_has_ask e n opcode p m h = line_has_ask e n opcode p m h ∙ sym (line_has_ask e 0 Invalid p m h)

@@ -2,21 +2,13 @@
 -- there: a name and operands, or a refusal. The first row that holds counts. `own` is the row in the opcode map. Source:
 -- Intel SDM volume 2, appendix A.2 (the letters of operands) and A.4 (the columns of its tables of opcode extensions).
 use Rattle.std.specs.Prelude.{ℕ, nat_le, ◌==◌, Bool, true, not, ◌&&◌, ◌||◌, if◌then◌else◌, List, [], ◌∷◌, slice_index_or, unwrap_or}
-use Rattle.x86_operands.specs.Vocabulary.{RegisterClass, Prefixes, TableRow, BadOpcode, AtModRM, OperandEncoding, OperandEncodings, Plan, reg_spec, reg_field, rm_field, is_memory, operand_size, address_size, has_r, has_w, has_b, repnz, rep, class_of}
-use Rattle.x86_operands.specs.RowVocabulary.{ByReg, ByRm, Bytes, FormRow, Letter, Letters, Memory, Name, Names, Of, Own, Place, Reg, Register, Rm, RowSize, When}
+use Rattle.x86_operands.specs.Vocabulary.{Prefixes, TableRow, BadOpcode, AtModRM, Plan, reg_field, rm_field, is_memory, operand_size, address_size, has_r, has_w, has_b, repnz, rep}
+use Rattle.x86_operands.specs.RowVocabulary.{ByReg, ByRm, Bytes, FormRow, Memory, Name, Names, Of, Own, Place, Reg, Register, Rm, RowSize, When}
 use Rattle.x86_operands.specs.Words.{otherwise}
-use Rattle.x86_regs.specs.declared.RegisterClass.TheVariants as class
 use Rattle.x86_opcodes.specs.Names.{Invalid}
 use Rattle.x86_opcodes.specs.Numbers.{opcode_numbered}
 use Rattle.x86_forms.specs.Words.{carried}
-use Rattle.x86_operands.specs.declared.plans.OperandEncoding.TheVariants as encoding
-use Rattle.x86_operands.specs.declared.plans.OperandEncodings.TheVariants as coded
-use Rattle.x86_operands.specs.declared.plans.RegisterSlot.TheVariants as slot
-use Rattle.x86_operands.specs.declared.plans.PointerSlot.TheVariants as pointer
-use Rattle.x86_operands.specs.Encodings.{last_encoding, size_bytes}
-use Rattle.x86_operands.specs.Plans.{rm_number, register_at, accumulator_of}
-use Rattle.x86_operands.specs.declared.letters.Letter.TheVariants as letter
-use Rattle.x86_operands.specs.declared.letters.Letters.TheVariants as letters
+use Rattle.x86_operands.specs.Encodings.{all_settled, size_bytes}
 use Rattle.x86_operands.specs.declared.rows.Reg.TheVariants as regs
 use Rattle.x86_operands.specs.declared.rows.Rm.TheVariants as rms
 use Rattle.x86_operands.specs.declared.rows.When.TheVariants as when
@@ -91,56 +83,18 @@ opcode_of (Name n) own m = named n
 opcode_of (ByReg names) own m = named (name_at names (reg_field m))
 opcode_of (ByRm names) own m = named (name_at names (rm_field m))
 
--- ---- operands
-
--- the class of a register that is an address
-abbrev pub pointer_class : Prefixes → RegisterClass
-pointer_class p = if address_size p then class.D else class.Q
-
-abbrev pub letter_encoding : Letter → TableRow → Prefixes → ℕ → OperandEncoding
-letter_encoding (letter.E w) own p m = encoding.E (class_of w p)
-letter_encoding (letter.G w) own p m = encoding.G (class_of w p)
-letter_encoding (letter.U w) own p m = encoding.U (class_of w p)
-letter_encoding letter.M own p m = encoding.M
-letter_encoding letter.Gmm own p m = encoding.Gmm
-letter_encoding letter.Emm own p m = encoding.Emm
-letter_encoding letter.Umm own p m = encoding.Umm
-letter_encoding letter.Cr own p m = encoding.G class.CR
-letter_encoding letter.Dr own p m = encoding.G class.DR
-letter_encoding letter.Sr own p m = encoding.G class.S
-letter_encoding (letter.Z at w) own p m = encoding.Fixed at (register_at (carried own.form) (class_of w p) p)
-letter_encoding (letter.A w) own p m = accumulator_of (class_of w p) p
-letter_encoding (letter.Last last) own p m = last_encoding last p
-letter_encoding letter.X8 own p m = encoding.X8
-letter_encoding letter.X16 own p m = encoding.X16
-letter_encoding letter.Jv own p m = if operand_size p && not (has_w p) then encoding.I32From16 else encoding.I32
-letter_encoding letter.Offset own p m = if address_size p then encoding.Address32 else encoding.Address64
-letter_encoding letter.Source own p m = encoding.Pointer pointer.Deref (reg_spec 6 (pointer_class p))
-letter_encoding letter.Destination own p m = encoding.Pointer pointer.Deref (reg_spec 7 (pointer_class p))
-letter_encoding (letter.Implied at n c) own p m = encoding.Fixed at (reg_spec n c)
-letter_encoding (letter.At at n c) own p m = encoding.Pointer at (reg_spec n c)
-letter_encoding letter.StRm own p m = encoding.Fixed slot.Rm (reg_spec (rm_field m) class.ST)
-letter_encoding letter.RdInReg own p m = encoding.Fixed slot.Reg (reg_spec (rm_number m p) class.D)
-
-abbrev pub operand_encodings : Letters → TableRow → Prefixes → ℕ → OperandEncodings
-operand_encodings letters.Zero own p m = coded.Zero
-operand_encodings (letters.One a) own p m = coded.One (letter_encoding a own p m)
-operand_encodings (letters.Two a b) own p m = coded.Two (letter_encoding a own p m) (letter_encoding b own p m)
-operand_encodings (letters.Three a b c) own p m = coded.Three (letter_encoding a own p m) (letter_encoding b own p m) (letter_encoding c own p m)
-operand_encodings (letters.Four a b c d) own p m = coded.Four (letter_encoding a own p m) (letter_encoding b own p m) (letter_encoding c own p m) (letter_encoding d own p m)
+-- ---- the plan of a row
 
 -- the bytes of a size
 abbrev pub row_bytes : RowSize → ℕ → Prefixes → ℕ
 row_bytes (Bytes n) opcode p = n
 row_bytes (Of size) opcode p = size_bytes size opcode p
 
--- ---- the plan of a row
-
 -- what a row has at a ModRM byte
 abbrev pub plan_of_row : FormRow → TableRow → Prefixes → ℕ → Plan
 plan_of_row row own p m = record {
   opcode = opcode_of row.names own m;
-  encodings = operand_encodings row.operands own p m;
+  encodings = all_settled row.operands (carried own.form) p;
   size = if is_memory m then row_bytes row.in_memory own.opcode p else row_bytes row.in_register own.opcode p;
   change = row.change;
   verdict = row.verdict;

@@ -1,17 +1,16 @@
 -- What a line of the operand encodings means. In a form that has sizes for named opcodes alone, any other opcode has size 0.
-use Rattle.std.specs.Prelude.{ℕ, Bool, true, false, ◌==◌, ◌+◌, if◌then◌else◌, not, pos, ◌&&◌, ◌||◌, List, [], ◌∷◌, unwrap_or}
+use Rattle.std.specs.Prelude.{ℕ, Bool, true, false, ◌==◌, ◌+◌, if◌then◌else◌, not, ◌&&◌, ◌||◌, List, [], ◌∷◌, map, unwrap_or}
 use Rattle.std.specs.Map.{lookup}
 use Rattle.x86_regs.specs.declared.RegisterClass.TheVariants as class
 use Rattle.x86_opcodes.specs.Kinds.{is_among}
 use Rattle.x86_opcodes.specs.Names.{CALL, CMPSD, CMPSS, ROUNDSS, ROUNDSD, MOVDDUP, MOVNTSS, MOVNTPS, MOVNTPD, MOVNTDQ, PEXTRB, PEXTRW, EXTRACTPS, PINSRB, INSERTPS, PMOVSXBQ, PMOVZXBQ, PMOVSXBD, PMOVZXBD, PMOVSXWQ, PMOVZXWQ, UCOMISS, COMISS, CVTSS2SD, MOVLPD, MOVHPD, PUNPCKLBW, PUNPCKLWD, PUNPCKLDQ, RETURN, RETF, PUSHF, POPF, LEAVE, XLAT}
-use Rattle.x86_operands.specs.Vocabulary.{width_of, reg_spec, RegisterClass, Prefixes, AtModRM, AfterAddress, Width, OperandEncoding, OperandEncodings, Zero, One, Two, Three, Plan, Position, First, Second, Third, Nowhere, Order, AfterOpcode, Last, Size, FormEncoding, ModrmUse, class_of, v_class, vq_class, dq_class, is_memory, has_w, operand_size}
+use Rattle.x86_operands.specs.Vocabulary.{width_of, RegisterClass, Prefixes, AtModRM, AfterAddress, Width, OperandEncoding, OperandEncodings, Zero, One, Two, Three, Plan, Position, First, Second, Third, Nowhere, Order, AfterOpcode, Size, FormEncoding, ModrmUse, v_class, vq_class, dq_class, is_memory, has_w, operand_size, address_size}
 use Rattle.x86_fields.specs.declared.sizes.Width.TheVariants as width
 use Rattle.x86_operands.specs.declared.plans.OperandEncoding.TheVariants as encoding
 use Rattle.x86_operands.specs.declared.plans.RegisterSlot.TheVariants as slot
 use Rattle.x86_operands.specs.declared.encodings.AfterOpcode.TheVariants as after_opcode
-use Rattle.x86_operands.specs.declared.encodings.Last.TheVariants as last
 use Rattle.x86_operands.specs.declared.encodings.Size.TheVariants as size
-use Rattle.x86_operands.specs.Plans.{is_refusal, reads, refused, register_at, accumulator_of}
+use Rattle.x86_operands.specs.Plans.{list_of, up_to_four, is_refusal, reads, refused}
 use Rattle.x86_operands.specs.declared.plans.ModrmUse.TheVariants as use_as
 
 -- an immediate by the class v: of a word, of a doubleword or of a quadword
@@ -52,33 +51,48 @@ size_bytes size.FarPointer o p = 2 + width_of (v_class p)
 size_bytes size.Call o p = if o == CALL then 8 else 0
 size_bytes s o p = named_size s o
 
-abbrev pub last_encoding : Last → Prefixes → OperandEncoding
-last_encoding last.Absent p = encoding.ConstantU8 0
-last_encoding last.I8 p = encoding.I8
-last_encoding last.U8 p = encoding.U8
-last_encoding last.U16 p = encoding.U16
-last_encoding last.I32 p = encoding.I32
-last_encoding last.Iv p = immediate_by encoding.I64 (v_class p)
-last_encoding last.Ivq p = immediate_by encoding.I64Whole (v_class p)
-last_encoding last.Ip p = if operand_size p && not (has_w p) then encoding.I16 else encoding.I32
-last_encoding last.SignedOne p = encoding.ConstantI8 (pos 1)
-last_encoding last.UnsignedOne p = encoding.ConstantU8 1
-last_encoding last.Three p = encoding.ConstantU8 3
-last_encoding last.Cl p = encoding.Fixed slot.Reg (reg_spec 1 class.B)
-last_encoding last.ClThird p = encoding.Fixed slot.Third (reg_spec 1 class.B)
+-- An operand in a plan: the opcode byte has the number of a register, and prefixes choose the size of some immediates.
+abbrev pub settled : OperandEncoding → ℕ → Prefixes → OperandEncoding
+settled (encoding.Z at w k) n p = encoding.Z at w n
+settled encoding.Iv n p = immediate_by encoding.I64 (v_class p)
+settled encoding.Ivq n p = immediate_by encoding.I64Whole (v_class p)
+settled encoding.Ip n p = if operand_size p && not (has_w p) then encoding.I16 else encoding.I32
+settled encoding.Jv n p = if operand_size p && not (has_w p) then encoding.I32From16 else encoding.I32
+settled encoding.Offset n p = if address_size p then encoding.Address32 else encoding.Address64
+settled s n p = s
 
-abbrev pub reg_encoding : AfterOpcode → Width → ℕ → Prefixes → OperandEncoding
-reg_encoding after_opcode.Opcode w n p = encoding.Fixed slot.Reg (register_at n (class_of w p) p)
-reg_encoding after_opcode.Accumulator w n p = accumulator_of (class_of w p) p
-reg_encoding b width.Mm n p = encoding.Gmm
-reg_encoding b w n p = encoding.G (class_of w p)
+abbrev pub all_settled : OperandEncodings → ℕ → Prefixes → OperandEncodings
+all_settled operands n p = up_to_four (map (λ s. settled s n p) (list_of operands))
 
-abbrev pub rm_encoding : AfterOpcode → Width → Prefixes → OperandEncoding
-rm_encoding after_opcode.Memory w p = encoding.M
-rm_encoding after_opcode.Registers width.Mm p = encoding.Umm
-rm_encoding after_opcode.Registers w p = encoding.U (class_of w p)
-rm_encoding b width.Mm p = encoding.Emm
-rm_encoding b w p = encoding.E (class_of w p)
+-- what the last operand of a line can be: an immediate, or what neither a byte nor ModRM names
+abbrev pub is_last : OperandEncoding → Bool
+is_last encoding.I8 = true
+is_last encoding.I16 = true
+is_last encoding.I32 = true
+is_last encoding.I64 = true
+is_last encoding.I64Whole = true
+is_last encoding.U8 = true
+is_last encoding.U16 = true
+is_last encoding.Iv = true
+is_last encoding.Ivq = true
+is_last encoding.Ip = true
+is_last (encoding.ConstantI8 z) = true
+is_last (encoding.ConstantU8 n) = true
+is_last (encoding.Implied at n c) = true
+is_last s = false
+
+abbrev pub reg_encoding : AfterOpcode → Width → ℕ → OperandEncoding
+reg_encoding after_opcode.Opcode w n = encoding.Z slot.Reg w n
+reg_encoding after_opcode.Accumulator w n = encoding.A w
+reg_encoding b width.Mm n = encoding.Gmm
+reg_encoding b w n = encoding.G w
+
+abbrev pub rm_encoding : AfterOpcode → Width → OperandEncoding
+rm_encoding after_opcode.Memory w = encoding.M
+rm_encoding after_opcode.Registers width.Mm = encoding.Umm
+rm_encoding after_opcode.Registers w = encoding.U w
+rm_encoding b width.Mm = encoding.Emm
+rm_encoding b w = encoding.E w
 
 abbrev pub index_of_position : Position → ℕ
 index_of_position First = 0
@@ -114,7 +128,7 @@ restricted_plan b m plan = plan
 
 -- the plan of a form with this encoding, whose opcode byte carries n
 abbrev pub plan_of : FormEncoding → ℕ → ℕ → Prefixes → ℕ → Plan
-plan_of e n o p m = restricted_plan e.after_opcode m (reads o (encodings_in e.order (reg_encoding e.after_opcode e.reg n p) (rm_encoding e.after_opcode e.rm p) (last_encoding e.last p)) (size_bytes (size_at e m) o p))
+plan_of e n o p m = restricted_plan e.after_opcode m (reads o (encodings_in e.order (reg_encoding e.after_opcode e.reg n) (rm_encoding e.after_opcode e.rm) (settled e.last 0 p)) (size_bytes (size_at e m) o p))
 
 abbrev pub is_described : AfterOpcode → Bool
 is_described (after_opcode.ByReg g) = false
@@ -166,17 +180,13 @@ has_register b = false
 abbrev pub order_fits : AfterOpcode → Order → Bool
 order_fits b o = if somewhere o.rm then has_modrm b else (if somewhere o.reg then has_register b else not (has_modrm b))
 
-abbrev pub has_last : Order → Last → Bool
-has_last o last.Absent = not (somewhere o.last)
-has_last o l = true
-
 -- the operations and ModRM bytes that a line accepts: its plan doesn't refuse them. A ModRM byte that isn't there reads
 -- as C0
 abbrev pub allows : AfterOpcode → ℕ → ℕ → Bool
 allows b o m = is_described b && (not (is_refusal (restricted_plan b m (reads o Zero 0)).verdict) && (has_modrm b || not (is_memory m)))
 
 abbrev pub is_sound : FormEncoding → Bool
-is_sound e = is_order e.order && (order_fits e.after_opcode e.order && has_last e.order e.last)
+is_sound e = is_order e.order && (order_fits e.after_opcode e.order && is_last e.last)
 
 -- how a form with this encoding uses a ModRM byte
 abbrev pub use_of : AfterOpcode → ModrmUse

@@ -1,12 +1,13 @@
 -- What the operands of an instruction are after each step that writes them.
 use Rattle.std.specs.Prelude.{ℕ, Bool, true, false, if◌then◌else◌, Result, Ok, Err, Option, None, nat_lt, slice_index_or, slice_set, []}
 use Rattle.x86_regs.specs.declared.RegisterClass.TheVariants as class
-use Rattle.x86_operands.specs.Vocabulary.{reg_spec, Prefixes, Width, Raw, DecodeError, OperandEncoding, I8, U8, I16, U16, I32, I64, I64Whole, ConstantI8, ConstantU8, Fixed, Position, Nowhere, AfterOpcode, Last, FormEncoding, Slot, Operand, Reading, Operands, reg_field, absent_modrm, class_of, register_of}
+use Rattle.x86_operands.specs.Vocabulary.{reg_spec, Prefixes, Width, Raw, DecodeError, OperandEncoding, G, Gmm, E, Emm, M, U, Umm, Position, Nowhere, AfterOpcode, FormEncoding, Slot, Operand, Reading, Operands, reg_field, absent_modrm, class_of, register_of}
 use Rattle.x86_fields.specs.declared.sizes.Width.TheVariants as width
+use Rattle.x86_operands.specs.declared.plans.OperandEncoding.TheVariants as encoding
 use Rattle.x86_fields.specs.Steps.{Step, ◌>>=◌, pure}
 use Rattle.x86_operands.specs.declared.encodings.AfterOpcode.TheVariants as after_opcode
-use Rattle.x86_operands.specs.Plans.{reg_number, register_at}
-use Rattle.x86_operands.specs.Encodings.{index_of_position, last_encoding, reg_encoding, rm_encoding, somewhere}
+use Rattle.x86_operands.specs.Plans.{reg_number, rm_number}
+use Rattle.x86_operands.specs.Encodings.{index_of_position, settled, reg_encoding, rm_encoding, somewhere}
 use Rattle.x86_operands.specs.declared.operands.Slot.TheVariants as slots
 use Rattle.x86_operands.specs.declared.operands.Operand.TheVariants as operands
 use Rattle.x86_operands.specs.PlanSteps.{four_of, known_operand, operand_step, read_memory}
@@ -40,19 +41,19 @@ reg_pair w p m = (slots.Reg, operands.Register (register_of (class_of w p) p (re
 
 -- the register of the opcode byte, or register 0
 abbrev pub fixed_pair : AfterOpcode → Width → ℕ → Prefixes → Slot × Operand
-fixed_pair after_opcode.Opcode w n p = (slots.Reg, operands.Register (register_at n (class_of w p) p))
+fixed_pair after_opcode.Opcode w n p = (slots.Reg, operands.Register (register_of (class_of w p) p (rm_number n p)))
 fixed_pair b w n p = (slots.Reg, operands.Register (register_of (class_of w p) p 0))
 
 -- the last operand
-abbrev pub last_read : Position → Last → Prefixes → Operands → Step Operands
+abbrev pub last_read : Position → OperandEncoding → Prefixes → Operands → Step Operands
 last_read Nowhere l p operand_list = pure operand_list
-last_read at l p operand_list = encoded_read at (last_encoding l p) p operand_list
+last_read at l p operand_list = encoded_read at (settled l 0 p) p operand_list
 
 -- the operands of reg and rm, each at its position: of ModRM, or a register that no ModRM names
 abbrev pub placed : FormEncoding → ℕ → Prefixes → ℕ → Option Raw → Operands → Operands
 placed e n p m memory operand_list =
-    put_in e.order.reg (known_operand (reg_encoding e.after_opcode e.reg n p) p m memory)
-    (put_in e.order.rm (known_operand (rm_encoding e.after_opcode e.rm p) p m memory) operand_list)
+    put_in e.order.reg (known_operand (reg_encoding e.after_opcode e.reg n) p m memory)
+    (put_in e.order.rm (known_operand (rm_encoding e.after_opcode e.rm) p m memory) operand_list)
 
 abbrev pub leading_read : FormEncoding → ℕ → Prefixes → ℕ → Operands → Step Operands
 leading_read e n p m operand_list =
@@ -79,18 +80,18 @@ sized count size = record no_operands { count = count; mem_size = size }
 abbrev pub put_encoded : ℕ → OperandEncoding → Prefixes → ℕ → Option Raw → Operands → Step Operands
 put_encoded k s p m memory operand_list = operand_step s p m memory >>= λ x. pure (put_at k x operand_list)
 
--- ---- the last operand
-
--- an immediate, or what neither a byte nor ModRM names
-abbrev pub is_last_encoding : OperandEncoding → Bool
-is_last_encoding I8 = true
-is_last_encoding U8 = true
-is_last_encoding I16 = true
-is_last_encoding U16 = true
-is_last_encoding I32 = true
-is_last_encoding I64 = true
-is_last_encoding I64Whole = true
-is_last_encoding (ConstantI8 imm) = true
-is_last_encoding (ConstantU8 imm) = true
-is_last_encoding (Fixed slot reg) = true
-is_last_encoding e = false
+-- an operand that ModRM names
+abbrev pub is_of_modrm : OperandEncoding → Bool
+is_of_modrm (G w) = true
+is_of_modrm Gmm = true
+is_of_modrm (E w) = true
+is_of_modrm Emm = true
+is_of_modrm M = true
+is_of_modrm (U w) = true
+is_of_modrm Umm = true
+is_of_modrm encoding.Cr = true
+is_of_modrm encoding.Dr = true
+is_of_modrm encoding.Sr = true
+is_of_modrm encoding.StRm = true
+is_of_modrm encoding.RdInReg = true
+is_of_modrm s = false

@@ -2,8 +2,9 @@
 use Rattle.std.specs.Prelude.{ℕ, Bool, true, false, if◌then◌else◌, Option, Some, None, List, [], ◌∷◌, length, slice_index_or, ◌==◌}
 use Rattle.std.specs.Int.{Width, w8, w16, w32, w64, cast_signed}
 use Rattle.std.specs.Option.{option_map_or}
-use Rattle.x86_operands.specs.Vocabulary.{RegSpec, DecodeError, Prefixes, Raw, Slot, Operand, RegisterSlot, PointerSlot, OperandEncoding, G, Gmm, E, Emm, M, U, Umm, Fixed, Pointer, I8, I16, I32, I64, I32From16, I64Whole, U8, U16, X8, X16, ConstantI8, ConstantU8, Address32, Address64, Moment, AtModRM, AfterAddress, AfterSuffix, Fault, BadOpcode, BadOperand, Incomplete, Verdict, NamedBySuffix, Refuses, PrefixChange, Keeps, ClearsOperandSize, SetsEs, ModrmUse, Absent, EitherForm, Registers, Plan, Reading, Operands, reg_spec, reg_field, rm_field, is_memory, absent_modrm, as_register, register_of}
-use Rattle.x86_regs.specs.declared.RegisterClass.TheVariants.{Q, MM}
+use Rattle.x86_operands.specs.Vocabulary.{RegSpec, RegisterClass, DecodeError, Prefixes, Raw, Slot, Operand, RegisterSlot, PointerSlot, OperandEncoding, G, Gmm, E, Emm, M, U, Umm, I8, I16, I32, I64, I32From16, I64Whole, U8, U16, X8, X16, ConstantI8, ConstantU8, Address32, Address64, Moment, AtModRM, AfterAddress, AfterSuffix, Fault, BadOpcode, BadOperand, Incomplete, Verdict, NamedBySuffix, Refuses, PrefixChange, Keeps, ClearsOperandSize, SetsEs, ModrmUse, Absent, EitherForm, Registers, Plan, Reading, Operands, reg_spec, reg_field, rm_field, is_memory, absent_modrm, as_register, register_of, class_of, address_size}
+use Rattle.x86_regs.specs.declared.RegisterClass.TheVariants as class
+use Rattle.x86_operands.specs.declared.plans.OperandEncoding.TheVariants as encoding
 use Rattle.x86_fields.specs.declared.errors.DecodeError.TheVariants.{InvalidOpcode, InvalidOperand, IncompleteDecoder}
 use Rattle.x86_fields.specs.Prefixes.{without_operand_size, with_es}
 use Rattle.x86_fields.specs.Raw.{read_raw}
@@ -73,20 +74,33 @@ immediate_read Address32 = Some (w32, λ n. (slots.DispU32, operands.AbsoluteU32
 immediate_read Address64 = Some (w64, λ n. (slots.DispU64, operands.AbsoluteU64 n))
 immediate_read s = None
 
--- the slot and the operand of an operand encoding for which no byte is read
+-- the class of a register that is an address
+abbrev pub pointer_class : Prefixes → RegisterClass
+pointer_class p = if address_size p then class.D else class.Q
+
+-- The slot and the operand of an operand encoding for which no byte is read. One that no plan has is the number 0.
 abbrev pub known_operand : OperandEncoding → Prefixes → ℕ → Option Raw → Slot × Operand
-known_operand (G c) p m memory = (slots.Reg, operands.Register (register_of c p (reg_number m p)))
-known_operand Gmm p m memory = (slots.Reg, operands.Register (reg_spec (reg_field m) MM))
-known_operand (E c) p m memory = memory_or (register_of c p (rm_number m p)) memory
-known_operand Emm p m memory = memory_or (reg_spec (rm_field m) MM) memory
-known_operand M p m memory = memory_or (register_of Q p (rm_number m p)) memory
-known_operand (U c) p m memory = memory_or (register_of c p (rm_number m p)) memory
-known_operand Umm p m memory = memory_or (reg_spec (rm_field m) MM) memory
-known_operand (Fixed slot reg) p m memory = (register_slot slot, operands.Register reg)
-known_operand (Pointer slot reg) p m memory = (pointer_slot slot, operands.MemDeref reg)
+known_operand (G w) p m memory = (slots.Reg, operands.Register (register_of (class_of w p) p (reg_number m p)))
+known_operand Gmm p m memory = (slots.Reg, operands.Register (reg_spec (reg_field m) class.MM))
+known_operand (E w) p m memory = memory_or (register_of (class_of w p) p (rm_number m p)) memory
+known_operand Emm p m memory = memory_or (reg_spec (rm_field m) class.MM) memory
+known_operand M p m memory = memory_or (reg_spec (rm_number m p) class.Q) memory
+known_operand (U w) p m memory = memory_or (register_of (class_of w p) p (rm_number m p)) memory
+known_operand Umm p m memory = memory_or (reg_spec (rm_field m) class.MM) memory
+known_operand encoding.Cr p m memory = (slots.Reg, operands.Register (reg_spec (reg_number m p) class.CR))
+known_operand encoding.Dr p m memory = (slots.Reg, operands.Register (reg_spec (reg_number m p) class.DR))
+known_operand encoding.Sr p m memory = (slots.Reg, operands.Register (reg_spec (reg_number m p) class.S))
+known_operand encoding.StRm p m memory = (slots.Rm, operands.Register (reg_spec (rm_field m) class.ST))
+known_operand encoding.RdInReg p m memory = (slots.Reg, operands.Register (reg_spec (rm_number m p) class.D))
+known_operand (encoding.Z slot w n) p m memory = (register_slot slot, operands.Register (register_of (class_of w p) p (rm_number n p)))
+known_operand (encoding.A w) p m memory = (slots.Reg, operands.Register (register_of (class_of w p) p 0))
+known_operand (encoding.Implied slot n c) p m memory = (register_slot slot, operands.Register (reg_spec n c))
+known_operand (encoding.At slot n c) p m memory = (pointer_slot slot, operands.MemDeref (reg_spec n c))
+known_operand encoding.Source p m memory = (slots.Deref, operands.MemDeref (reg_spec 6 (pointer_class p)))
+known_operand encoding.Destination p m memory = (slots.Deref, operands.MemDeref (reg_spec 7 (pointer_class p)))
 known_operand (ConstantI8 z) p m memory = (slots.ImmI8, operands.ImmediateI8 z)
 known_operand (ConstantU8 n) p m memory = (slots.ImmU8, operands.ImmediateU8 n)
-known_operand s p m memory = (slots.Nothing, operands.Nothing)
+known_operand s p m memory = (slots.ImmU8, operands.ImmediateU8 0)
 
 abbrev pub number_or : Option Immediate → Slot × Operand → Step (Slot × Operand)
 number_or None x = pure x

@@ -1,7 +1,5 @@
 -- The types of rows, and variants of them.
-pub use Rattle.x86_operands.specs.declared.letters.Letter.{Letter}
-pub use Rattle.x86_operands.specs.declared.letters.Letters.{Letters}
-pub use Rattle.x86_operands.specs.declared.letters.RowSize.{RowSize}
+pub use Rattle.x86_operands.specs.declared.rows.RowSize.{RowSize}
 pub use Rattle.x86_operands.specs.declared.rows.Place.{Place}
 pub use Rattle.x86_operands.specs.declared.rows.Reg.{Reg}
 pub use Rattle.x86_operands.specs.declared.rows.Rm.{Rm}
@@ -9,6 +7,6 @@ pub use Rattle.x86_operands.specs.declared.rows.When.{When}
 pub use Rattle.x86_operands.specs.declared.rows.Names.{Names}
 pub use Rattle.x86_operands.specs.declared.rows.Where.{Where}
 pub use Rattle.x86_operands.specs.declared.rows.FormRow.{FormRow}
-pub use Rattle.x86_operands.specs.declared.letters.RowSize.TheVariants.{Bytes, Of}
+pub use Rattle.x86_operands.specs.declared.rows.RowSize.TheVariants.{Bytes, Of}
 pub use Rattle.x86_operands.specs.declared.rows.Place.TheVariants.{Bare, Memory, Register, Either}
 pub use Rattle.x86_operands.specs.declared.rows.Names.TheVariants.{Own, Name, ByReg, ByRm}

@@ -14,36 +14,34 @@ use Rattle.x86_operands.specs.declared.plans.RegisterSlot.TheVariants.{Reg, Rm, 
 use Rattle.x86_operands.specs.declared.plans.PointerSlot.TheVariants.{Deref, DerefEsi, DerefEdi, DerefRsi, DerefRdi}
 use Rattle.x86_regs.specs.declared.RegisterClass.TheVariants as class
 use Rattle.x86_operands.specs.declared.encodings.Size.TheVariants.{FarPointer, Bare, Call, Return, Duplicate, Stream, Scalar, Extract, Insert, Unpack, Extend}
-use Rattle.x86_operands.specs.declared.encodings.Last.TheVariants.{I8, U8, U16, I32, Iv, Ivq, Ip, UnsignedOne}
-use Rattle.x86_operands.specs.declared.encodings.Last.TheVariants as last
-use Rattle.x86_operands.specs.declared.letters.Letter.TheVariants.{E, G, U, M, Gmm, Emm, Umm, Sr, Z, A, X16, Offset, Source, Destination, At, Implied, Last}
-use Rattle.x86_operands.specs.declared.letters.Letters.TheVariants.{Zero, One, Two, Three}
+use Rattle.x86_operands.specs.declared.plans.OperandEncoding.TheVariants.{E, G, U, M, Gmm, Emm, Umm, Sr, A, I8, U8, U16, I32, Iv, Ivq, Ip, X16, Offset, Source, Destination, At, Implied}
+use Rattle.x86_operands.specs.declared.plans.OperandEncodings.TheVariants.{Zero, One, Two, Three}
 use Rattle.x86_operands.specs.declared.rows.When.TheVariants.{Always, With66, With67, RexW, RexR, Register0, Opcode}
-use Rattle.x86_operands.specs.Words.{bare, mem, reg, both, both_at, both_from, of_dq, size, size_of, size_v, size_dq, or_v, read, changing, refusing, refusal, otherwise, named_by_v, without_modrm, with_modrm, with_memory, with_register}
+use Rattle.x86_operands.specs.Words.{bare, mem, reg, both, both_at, both_from, Z, unsigned_one, three, of_dq, size, size_of, size_v, size_dq, or_v, read, changing, refusing, refusal, otherwise, named_by_v, without_modrm, with_modrm, with_memory, with_register}
 
 -- of the plain forms none is left to the last line, for groups
 unfoldable pub form_rows : Form → List FormRow
 -- no ModRM: the register of the opcode byte, immediates, and nothing
 form_rows (form.Zv_R n) = without_modrm (One (Z Reg Vq)) (size 8)
-form_rows (form.Zb_Ib_R n) = without_modrm (Two (Z Reg B) (Last U8)) (size 0)
-form_rows (form.Zv_Ivq_R n) = without_modrm (Two (Z Reg V) (Last Ivq)) (size 0)
+form_rows (form.Zb_Ib_R n) = without_modrm (Two (Z Reg B) U8) (size 0)
+form_rows (form.Zv_Ivq_R n) = without_modrm (Two (Z Reg V) Ivq) (size 0)
 form_rows (form.Zv_B n) = without_modrm (One (Z Reg V)) (size 0)
 form_rows form.Nothing = without_modrm Zero (size_of Bare)
-form_rows form.Ibs = without_modrm (One (Last I8)) (size 0)
-form_rows form.Jvds = without_modrm (One (Last I32)) (size_of Call)
-form_rows form.PushIbs = without_modrm (One (Last I8)) (size 8)
-form_rows form.PushIvs = without_modrm (One (Last Ip)) (size 8)
-form_rows form.Ib = without_modrm (One (Last U8)) (size 0)
-form_rows form.I_3 = without_modrm (One (Last last.Three)) (size 0)
-form_rows form.I_1 = without_modrm (One (Last UnsignedOne)) (size 0)
-form_rows form.Iw = without_modrm (One (Last U16)) (size_of Return)
+form_rows form.Ibs = without_modrm (One I8) (size 0)
+form_rows form.Jvds = without_modrm (One I32) (size_of Call)
+form_rows form.PushIbs = without_modrm (One I8) (size 8)
+form_rows form.PushIvs = without_modrm (One Ip) (size 8)
+form_rows form.Ib = without_modrm (One U8) (size 0)
+form_rows form.I_3 = without_modrm (One three) (size 0)
+form_rows form.I_1 = without_modrm (One unsigned_one) (size 0)
+form_rows form.Iw = without_modrm (One U16) (size_of Return)
 form_rows form.AH = without_modrm Zero (size 0)
-form_rows form.AL_Ibs = without_modrm (Two (A B) (Last I8)) (size 0)
-form_rows form.AX_Ivd = without_modrm (Two (A V) (Last Iv)) (size 0)
-form_rows form.AL_Ib = without_modrm (Two (A B) (Last U8)) (size 0)
-form_rows form.AX_Ib = without_modrm (Two (A Vd) (Last U8)) (size 0)
-form_rows form.Ib_AL = without_modrm (Two (Last U8) (A B)) (size 0)
-form_rows form.Ib_AX = without_modrm (Two (Last U8) (A Vd)) (size 0)
+form_rows form.AL_Ibs = without_modrm (Two (A B) I8) (size 0)
+form_rows form.AX_Ivd = without_modrm (Two (A V) Iv) (size 0)
+form_rows form.AL_Ib = without_modrm (Two (A B) U8) (size 0)
+form_rows form.AX_Ib = without_modrm (Two (A Vd) U8) (size 0)
+form_rows form.Ib_AL = without_modrm (Two U8 (A B)) (size 0)
+form_rows form.Ib_AX = without_modrm (Two U8 (A Vd)) (size 0)
 -- XCHG with the accumulator, and names by the prefixes
 form_rows (form.Zv_AX_R n) =
     read bare Register0 (Name NOP) Zero (size 0) ∷
@@ -52,11 +50,11 @@ form_rows form.CVT_AA = named_by_v CBW CWDE CDQE
 form_rows form.CVT_DA = named_by_v CWD CDQ CQO
 form_rows form.Fw = named_by_v IRET IRETD IRETQ
 form_rows form.CXZ =
-    read bare With67 (Name JECXZ) (One (Last I8)) (size 0) ∷
-    read bare Always Own (One (Last I8)) (size 0) ∷ []
+    read bare With67 (Name JECXZ) (One I8) (size 0) ∷
+    read bare Always Own (One I8) (size 0) ∷ []
 form_rows form.FS = without_modrm (One (Implied Reg 4 class.S)) (size 8)
 form_rows form.GS = without_modrm (One (Implied Reg 5 class.S)) (size 8)
-form_rows form.Iw_Ib = without_modrm (Two X16 (Last U8)) (size 8)
+form_rows form.Iw_Ib = without_modrm (Two X16 U8) (size 8)
 -- ports, absolute addresses and strings; 67 doesn't shorten those of INS and OUTS
 form_rows form.AL_DX = without_modrm (Two (A B) (Implied Rm 2 class.W)) (size 0)
 form_rows form.AX_DX = without_modrm (Two (A Vd) (Implied Rm 2 class.W)) (size 0)
@@ -98,9 +96,9 @@ form_rows form.Gv_Ew = with_modrm (Two (G V) (E W)) (Bytes 2, Bytes 0)
 form_rows form.Gdq_Ed = with_modrm (Two (G Q) (E D)) (or_v (Bytes 4))
 form_rows form.Gd_Ed = with_modrm (Two (G D) (E D)) (or_v (Bytes 4))
 form_rows form.Gdq_Ev = with_modrm (Two (G Dq) (E V)) (or_v (Bytes 4))
-form_rows form.Gv_Ev_Ib = with_modrm (Three (G V) (E V) (Last I8)) size_v
-form_rows form.Gv_Ev_Iv = with_modrm (Three (G V) (E V) (Last Iv)) size_v
-form_rows form.Ev_Gv_Ib = with_modrm (Three (E V) (G V) (Last I8)) size_v
+form_rows form.Gv_Ev_Ib = with_modrm (Three (G V) (E V) I8) size_v
+form_rows form.Gv_Ev_Iv = with_modrm (Three (G V) (E V) Iv) size_v
+form_rows form.Ev_Gv_Ib = with_modrm (Three (E V) (G V) I8) size_v
 form_rows form.Ev_Gv_CL = with_modrm (Three (E V) (G V) (Implied Third 1 class.B)) size_v
 form_rows form.Gv_Ew_LAR = with_modrm (Two (G V) (E V)) (or_v (Bytes 2))
 form_rows form.Gv_Ew_LSL = with_modrm (Two (G V) (E Vd)) (or_v (Bytes 2))
@@ -114,8 +112,8 @@ form_rows form.G_Ed_xmm = with_modrm (Two (G X) (E X)) (or_v (Bytes 4))
 form_rows form.Ed_G_xmm = with_modrm (Two (E X) (G X)) (or_v (Bytes 4))
 form_rows form.G_M_xmm = with_memory (Two (G X) M) (size 16)
 form_rows form.M_G_xmm = with_memory (Two M (G X)) (size_of Stream)
-form_rows form.G_E_xmm_Ib = with_modrm (Three (G X) (E X) (Last I8)) (or_v (Of Scalar))
-form_rows form.G_E_xmm_Ub = with_modrm (Three (G X) (E X) (Last U8)) (or_v (Bytes 16))
+form_rows form.G_E_xmm_Ib = with_modrm (Three (G X) (E X) I8) (or_v (Of Scalar))
+form_rows form.G_E_xmm_Ub = with_modrm (Three (G X) (E X) U8) (or_v (Bytes 16))
 form_rows form.PMOVX_G_E_xmm =
     refusing reg (Opcode MOVLPD) (Two (G X) (E X)) BadOperand AtModRM ∷
     refusing reg (Opcode MOVHPD) (Two (G X) (E X)) BadOperand AtModRM ∷
@@ -127,10 +125,10 @@ form_rows form.Gv_E_xmm = with_modrm (Two (G V) (E X)) (or_v (Bytes 4))
 form_rows form.Gd_U_xmm = with_register (Two (G D) (U X)) size_v
 form_rows form.G_U_xmm = with_register (Two (G X) (U X)) size_v
 form_rows form.MASKMOVDQU = with_register (Two (G X) (U X)) (size 16)
-form_rows form.G_U_xmm_Ub = with_register (Three (G D) (U X) (Last U8)) size_v
-form_rows form.Ev_G_xmm_Ib = with_modrm (Three (E V) (G X) (Last U8)) (size_of Extract)
-form_rows form.G_Ev_xmm_Ib = with_modrm (Three (G X) (E X) (Last U8)) (or_v (Of Insert))
-form_rows form.G_xmm_Ew_Ib = with_modrm (Three (G X) (E D) (Last U8)) (or_v (Bytes 2))
+form_rows form.G_U_xmm_Ub = with_register (Three (G D) (U X) U8) size_v
+form_rows form.Ev_G_xmm_Ib = with_modrm (Three (E V) (G X) U8) (size_of Extract)
+form_rows form.G_Ev_xmm_Ib = with_modrm (Three (G X) (E X) U8) (or_v (Of Insert))
+form_rows form.G_xmm_Ew_Ib = with_modrm (Three (G X) (E D) U8) (or_v (Bytes 2))
 form_rows form.G_xmm_Edq = with_modrm (Two (G X) (E Dq)) size_v
 -- mm registers
 form_rows form.G_xmm_E_mm = with_modrm (Two (G X) Emm) (or_v (Bytes 8))
@@ -141,12 +139,12 @@ form_rows form.G_U_mm = with_register (Two (G D) Umm) size_v
 form_rows form.G_E_mm = with_modrm (Two Gmm Emm) (or_v (Of Unpack))
 form_rows form.G_mm_E = with_modrm (Two Gmm Emm) (or_v (Bytes 8))
 form_rows form.E_G_mm = with_modrm (Two Emm Gmm) (or_v (Bytes 8))
-form_rows form.G_E_mm_Ib = with_modrm (Three Gmm Emm (Last I8)) (Bytes 8, Bytes 0)
+form_rows form.G_E_mm_Ib = with_modrm (Three Gmm Emm I8) (Bytes 8, Bytes 0)
 form_rows form.G_mm_Edq = with_modrm (Two Gmm (E Dq)) size_v
 form_rows form.Edq_G_mm = with_modrm (Two (E Dq) Gmm) (or_v of_dq)
 form_rows form.G_Mq_mm = with_memory (Two M Gmm) (size 8)
 form_rows form.G_mm_U_mm = with_register (Two Gmm Umm) (size 8)
-form_rows form.G_mm_Ew_Ib = with_modrm (Three Gmm (E D) (Last I8)) (or_v (Bytes 2))
+form_rows form.G_mm_Ew_Ib = with_modrm (Three Gmm (E D) I8) (or_v (Bytes 2))
 -- segment registers: there are six, and CS isn't loaded
 form_rows form.Ew_Sw =
     refusal both RexR BadOperand AfterAddress ∷
@@ -172,16 +170,16 @@ form_rows form.MOVDIR64B =
     otherwise BadOperand AtModRM ∷ []
 -- W names the operation
 form_rows form.Pextr_dq =
-    read both RexW (Name PEXTRQ) (Three (E V) (G X) (Last U8)) size_dq ∷
-    read both Always (Name PEXTRD) (Three (E V) (G X) (Last U8)) size_dq ∷ []
+    read both RexW (Name PEXTRQ) (Three (E V) (G X) U8) size_dq ∷
+    read both Always (Name PEXTRD) (Three (E V) (G X) U8) size_dq ∷ []
 form_rows form.Pinsr_dq =
-    read both RexW (Name PINSRQ) (Three (G X) (E X) (Last U8)) (or_v of_dq) ∷
-    read both Always (Name PINSRD) (Three (G X) (E X) (Last U8)) (or_v of_dq) ∷ []
+    read both RexW (Name PINSRQ) (Three (G X) (E X) U8) (or_v of_dq) ∷
+    read both Always (Name PINSRD) (Three (G X) (E X) U8) (or_v of_dq) ∷ []
 form_rows form.Edq_G_xmm =
     read both RexW (Name MOVQ) (Two (E Dq) (G X)) (or_v of_dq) ∷
     read both Always Own (Two (E Dq) (G X)) (or_v of_dq) ∷ []
 -- a memory form is refused after the immediate
 form_rows form.Rv_Gmm_Ib =
-    read reg Always Own (Three (G D) Umm (Last U8)) size_v ∷
-    refusing both Always (Three (G D) Umm (Last U8)) BadOperand AfterSuffix ∷ []
+    read reg Always Own (Three (G D) Umm U8) size_v ∷
+    refusing both Always (Three (G D) Umm U8) BadOperand AfterSuffix ∷ []
 form_rows f = otherwise Incomplete AtModRM ∷ []

@@ -28,7 +28,6 @@ pub use Rattle.x86_operands.specs.declared.plans.PrefixChange.{PrefixChange}
 pub use Rattle.x86_operands.specs.declared.plans.ModrmUse.{ModrmUse}
 pub use Rattle.x86_operands.specs.declared.plans.Plan.{Plan}
 pub use Rattle.x86_operands.specs.declared.encodings.AfterOpcode.{AfterOpcode}
-pub use Rattle.x86_operands.specs.declared.encodings.Last.{Last}
 pub use Rattle.x86_operands.specs.declared.encodings.Size.{Size}
 pub use Rattle.x86_operands.specs.declared.encodings.FormEncoding.{FormEncoding}
 pub use Rattle.x86_operands.specs.declared.encodings.RegGroup.{RegGroup}
@@ -38,7 +37,7 @@ pub use Rattle.x86_operands.specs.declared.reader.Reading.{Reading}
 pub use Rattle.x86_operands.specs.declared.operand_list.Operands.{Operands}
 pub use Rattle.x86_operands.specs.declared.asks.Ask.{Ask}
 pub use Rattle.x86_operands.specs.declared.asks.RecordAt.{RecordAt}
-pub use Rattle.x86_operands.specs.declared.plans.OperandEncoding.TheVariants.{G, Gmm, E, Emm, M, U, Umm, Fixed, Pointer, I8, I16, I32, I64, I32From16, I64Whole, U8, U16, X8, X16, ConstantI8, ConstantU8, Address32, Address64}
+pub use Rattle.x86_operands.specs.declared.plans.OperandEncoding.TheVariants.{G, Gmm, E, Emm, M, U, Umm, I8, I16, I32, I64, I32From16, I64Whole, U8, U16, X8, X16, ConstantI8, ConstantU8, Address32, Address64}
 pub use Rattle.x86_operands.specs.declared.plans.OperandEncodings.TheVariants.{Zero, One, Two, Three, Four}
 pub use Rattle.x86_operands.specs.declared.plans.Fault.TheVariants.{BadOpcode, BadOperand, Incomplete}
 pub use Rattle.x86_operands.specs.declared.plans.Moment.TheVariants.{AtModRM, AfterAddress, AfterSuffix}

@@ -1,14 +1,13 @@
 -- The words that rows are written in.
-use Rattle.std.specs.Prelude.{ℕ, List, [], ◌∷◌}
+use Rattle.std.specs.Prelude.{ℕ, List, [], ◌∷◌, pos}
 use Rattle.x86_regs.specs.declared.RegisterClass.TheVariants as class
 use Rattle.x86_fields.specs.MemorySizes.{undecided_size}
 use Rattle.x86_operands.specs.declared.encodings.Size.TheVariants.{V, Vq, Dq}
 use Rattle.x86_opcodes.specs.Names.{Invalid}
-use Rattle.x86_operands.specs.Vocabulary.{Fault, Moment, BadOperand, AtModRM, AfterAddress, PrefixChange, Keeps, Size, Verdict, Accepts, NamedBySuffix, Refuses}
-use Rattle.x86_operands.specs.RowVocabulary.{Bare, Bytes, ByReg, ByRm, Either, FormRow, Letter, Letters, Memory, Name, Names, Of, Own, Place, Reg, Register, Rm, RowSize, When, Where}
+use Rattle.x86_operands.specs.Vocabulary.{OperandEncoding, OperandEncodings, Zero, RegisterSlot, Width, Fault, Moment, BadOperand, AtModRM, AfterAddress, PrefixChange, Keeps, Size, Verdict, Accepts, NamedBySuffix, Refuses}
+use Rattle.x86_operands.specs.RowVocabulary.{Bare, Bytes, ByReg, ByRm, Either, FormRow, Memory, Name, Names, Of, Own, Place, Reg, Register, Rm, RowSize, When, Where}
 use Rattle.x86_operands.specs.declared.plans.RegisterSlot.TheVariants as slot
-use Rattle.x86_operands.specs.declared.letters.Letter.TheVariants as letter
-use Rattle.x86_operands.specs.declared.letters.Letters.TheVariants as letters
+use Rattle.x86_operands.specs.declared.plans.OperandEncoding.TheVariants as encoding
 use Rattle.x86_operands.specs.declared.rows.When.TheVariants.{Always, RexW, With66}
 use Rattle.x86_operands.specs.declared.rows.Reg.TheVariants as regs
 use Rattle.x86_operands.specs.declared.rows.Rm.TheVariants as rms
@@ -68,31 +67,45 @@ by_rm a b c d e f g h = ByRm (a ∷ b ∷ c ∷ d ∷ e ∷ f ∷ g ∷ h ∷ []
 
 -- ---- operands
 
+-- the register of the opcode byte, whose number the plan has
+abbrev pub Z : RegisterSlot → Width → OperandEncoding
+Z at w = encoding.Z at w 0
+
+-- numbers that no byte spells
+abbrev pub signed_one : OperandEncoding
+signed_one = encoding.ConstantI8 (pos 1)
+
+abbrev pub unsigned_one : OperandEncoding
+unsigned_one = encoding.ConstantU8 1
+
+abbrev pub three : OperandEncoding
+three = encoding.ConstantU8 3
+
 -- registers that the name implies, in the slot of reg
-abbrev pub cl : Letter
-cl = letter.Implied slot.Reg 1 class.B
+abbrev pub cl : OperandEncoding
+cl = encoding.Implied slot.Reg 1 class.B
 
-abbrev pub rax : Letter
-rax = letter.Implied slot.Reg 0 class.Q
+abbrev pub rax : OperandEncoding
+rax = encoding.Implied slot.Reg 0 class.Q
 
-abbrev pub eax : Letter
-eax = letter.Implied slot.Reg 0 class.D
+abbrev pub eax : OperandEncoding
+eax = encoding.Implied slot.Reg 0 class.D
 
-abbrev pub ecx : Letter
-ecx = letter.Implied slot.Reg 1 class.D
+abbrev pub ecx : OperandEncoding
+ecx = encoding.Implied slot.Reg 1 class.D
 
-abbrev pub st0 : Letter
-st0 = letter.Implied slot.Reg 0 class.ST
+abbrev pub st0 : OperandEncoding
+st0 = encoding.Implied slot.Reg 0 class.ST
 
 -- and in the other slots
-abbrev pub ecx_in_rm : Letter
-ecx_in_rm = letter.Implied slot.Rm 1 class.D
+abbrev pub ecx_in_rm : OperandEncoding
+ecx_in_rm = encoding.Implied slot.Rm 1 class.D
 
-abbrev pub edx_in_rm : Letter
-edx_in_rm = letter.Implied slot.Rm 2 class.D
+abbrev pub edx_in_rm : OperandEncoding
+edx_in_rm = encoding.Implied slot.Rm 2 class.D
 
-abbrev pub ecx_third : Letter
-ecx_third = letter.Implied slot.Third 1 class.D
+abbrev pub ecx_third : OperandEncoding
+ecx_third = encoding.Implied slot.Third 1 class.D
 
 -- ---- memory sizes, in the memory form and in the register form
 
@@ -132,48 +145,48 @@ or_v s = (s, of_v)
 -- ---- rows
 
 -- a row: where, the prefixes, the name, the operands, the size, the change of the answer's prefixes, and the verdict
-abbrev pub row : Where → When → Names → Letters → RowSize × RowSize → PrefixChange → Verdict → FormRow
+abbrev pub row : Where → When → Names → OperandEncodings → RowSize × RowSize → PrefixChange → Verdict → FormRow
 row at when names operands size change verdict = record { at = at; when = when; names = names; operands = operands; in_memory = size.0; in_register = size.1; change = change; verdict = verdict }
 
 -- a row that is read; one that changes the prefixes of the answer; and one whose operation a last byte names
-abbrev pub read : Where → When → Names → Letters → RowSize × RowSize → FormRow
+abbrev pub read : Where → When → Names → OperandEncodings → RowSize × RowSize → FormRow
 read at when names operands size = row at when names operands size Keeps Accepts
 
-abbrev pub changing : PrefixChange → Where → When → Names → Letters → RowSize × RowSize → FormRow
+abbrev pub changing : PrefixChange → Where → When → Names → OperandEncodings → RowSize × RowSize → FormRow
 changing change at when names operands size = row at when names operands size change Accepts
 
-abbrev pub suffixed : Where → When → Letters → RowSize × RowSize → FormRow
+abbrev pub suffixed : Where → When → OperandEncodings → RowSize × RowSize → FormRow
 suffixed at when operands size = row at when (Name Invalid) operands size Keeps NamedBySuffix
 
 -- A row that is refused, and after which byte; the operands are those whose bytes it has. `otherwise` is wherever no row
 -- before it is.
-abbrev pub refusing : Where → When → Letters → Fault → Moment → FormRow
+abbrev pub refusing : Where → When → OperandEncodings → Fault → Moment → FormRow
 refusing at when operands fault moment = row at when (Name Invalid) operands (size 0) Keeps (Refuses fault moment)
 
 abbrev pub refusal : Where → When → Fault → Moment → FormRow
-refusal at when fault moment = refusing at when letters.Zero fault moment
+refusal at when fault moment = refusing at when Zero fault moment
 
 abbrev pub otherwise : Fault → Moment → FormRow
 otherwise fault moment = refusal both Always fault moment
 
 -- ---- forms with one row that is read, whose name is that of the opcode map
 
-abbrev pub without_modrm : Letters → RowSize × RowSize → List FormRow
+abbrev pub without_modrm : OperandEncodings → RowSize × RowSize → List FormRow
 without_modrm operands size = read bare Always Own operands size ∷ []
 
-abbrev pub with_modrm : Letters → RowSize × RowSize → List FormRow
+abbrev pub with_modrm : OperandEncodings → RowSize × RowSize → List FormRow
 with_modrm operands size = read both Always Own operands size ∷ []
 
 -- names by W and 66, in the order of the widths: of a word, of a doubleword, of a quadword
 abbrev pub named_by_v : ℕ → ℕ → ℕ → List FormRow
 named_by_v word double quad =
-    read bare RexW (Name quad) letters.Zero (size 0) ∷
-    read bare With66 (Name word) letters.Zero (size 0) ∷
-    read bare Always (Name double) letters.Zero (size 0) ∷ []
+    read bare RexW (Name quad) Zero (size 0) ∷
+    read bare With66 (Name word) Zero (size 0) ∷
+    read bare Always (Name double) Zero (size 0) ∷ []
 
 -- a register form is refused after ModRM, and a memory form after its address
-abbrev pub with_memory : Letters → RowSize × RowSize → List FormRow
+abbrev pub with_memory : OperandEncodings → RowSize × RowSize → List FormRow
 with_memory operands size = read mem Always Own operands size ∷ refusing both Always operands BadOperand AtModRM ∷ []
 
-abbrev pub with_register : Letters → RowSize × RowSize → List FormRow
+abbrev pub with_register : OperandEncodings → RowSize × RowSize → List FormRow
 with_register operands size = read reg Always Own operands size ∷ refusing both Always operands BadOperand AfterAddress ∷ []

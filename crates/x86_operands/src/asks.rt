@@ -2,7 +2,7 @@
 ghost use Rattle.std.specs.Prelude.{◌≡◌, ◌≤◌, true};
 ghost use Rattle.x86_fields.specs.Pieces.{option_bytes};
 ghost use Rattle.x86_operands.specs.Asks.{immediate_width, modrm_of, encoding_ask, immediates_width, uses_modrm, uses_suffix};
-ghost use Rattle.x86_operands.specs.Encodings.{is_sound};
+ghost use Rattle.x86_operands.specs.Encodings.{is_last, is_sound, settled};
 ghost use Rattle.x86_operands.specs.Vocabulary.{is_memory};
 
 use crate::encodings::FormEncoding;
@@ -97,15 +97,28 @@ pub fn plan_ask(usage: ModrmUse, modrm: ModRM, plan: &Plan) -> Ask
     }
 }
 
+/// How many bytes of immediate the last operand of a line has.
+#[inline(always)]
+fn last_width(last: OperandEncoding, prefixes: &Prefixes) -> u8
+    ensures { is_last last ≡ true → result ≡ immediate_width (settled last 0 prefixes.now) }
+{
+    match last {
+        OperandEncoding::Iv | OperandEncoding::Ivq | OperandEncoding::Ip => immediate_width(
+            last.settled(0, prefixes),
+        ),
+        last => immediate_width(last),
+    }
+}
+
 /// What a line of the operand encodings has at a ModRM byte that is used so: its last operand alone can be an immediate.
 #[inline(always)]
-#[tactic(auto, using(crate::proofs::OrderLemmas::line_has_ask))]
+#[tactic(auto, using(crate::proofs::OrderLemmas::line_has_ask, crate::proofs::OrderLemmas::sound_parts))]
 pub fn encoding_ask(encoding: &FormEncoding, prefixes: &Prefixes, modrm: ModRM) -> Ask
     ensures { is_sound encoding.now ≡ true → result ≡ encoding_ask encoding.now prefixes.now modrm }
 {
     let immediate = match encoding.order.last {
         Position::Nowhere => 0,
-        _ => immediate_width(encoding.last.encoding(prefixes)),
+        _ => last_width(encoding.last, prefixes),
     };
     Ask {
         modrm: !matches!(encoding.modrm_use(), ModrmUse::Absent),

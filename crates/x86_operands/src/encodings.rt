@@ -3,15 +3,14 @@
 ghost use Rattle.std.specs.Prelude.{◌≡◌, ℕ};
 ghost use Rattle.x86_operands.specs.Vocabulary.{Prefixes, is_memory};
 ghost use Rattle.x86_fields.specs.Sizes.{size_prefixes};
-ghost use Rattle.x86_operands.specs.Encodings.{size_bytes, last_encoding, use_of, allows, size_at};
+ghost use Rattle.x86_operands.specs.Encodings.{size_bytes, settled, all_settled, use_of, allows, size_at};
 
 use crate::form_sizes::named_size;
 use crate::order::Order;
-use crate::plans::{ModrmUse, OperandEncoding, RegisterSlot};
+use crate::plans::{ModrmUse, OperandEncoding, OperandEncodings};
 use crate::sizing::SIZES;
 use x86_fields::{ModRM, Prefixes, SizePrefixes, Width};
 use x86_opcodes::Opcode;
-use x86_regs::RegSpec;
 
 /// The groups whose lines reg alone chooses, by their opcode byte.
 #[derive(Clone, Copy, Drop)]
@@ -58,32 +57,6 @@ pub enum AfterOpcode {
     Group,
 }
 
-/// The operand that is none of ModRM and no register of the opcode byte.
-#[derive(Clone, Copy, Drop)]
-pub enum Last {
-    Absent,
-    I8,
-    U8,
-    U16,
-    I32,
-    /// Of v, at most 4 bytes.
-    Iv,
-    /// Of v, with its whole width.
-    Ivq,
-    /// Of PUSH.
-    Ip,
-    /// 1 as a signed byte, which no byte spells.
-    SignedOne,
-    /// 1, which no byte spells.
-    UnsignedOne,
-    /// 3, which no byte spells.
-    Three,
-    /// The register CL.
-    Cl,
-    /// The register CL, after two others.
-    ClThird,
-}
-
 /// A memory size in bytes: by itself, by W and 66, or by the operation.
 #[derive(Clone, Copy, Drop)]
 pub enum Size {
@@ -121,45 +94,63 @@ pub struct FormEncoding {
     pub reg: Width,
     /// The width of the register of the field rm.
     pub rm: Width,
-    /// The operand that is none of these.
-    pub last: Last,
+    /// The operand that is none of these: an immediate, or what neither a byte nor ModRM names.
+    pub last: OperandEncoding,
     /// The memory size, in the memory form.
     pub in_memory: Size,
     /// The same in the register form, and without ModRM.
     pub in_register: Size,
 }
 
-impl Last {
-    /// The encoding of the last operand.
+impl OperandEncoding {
+    /// The operand in a plan. `num` is the number of the opcode byte, which `Z` has; an immediate whose size the
+    /// prefixes choose becomes the one of that size.
     #[inline(always)]
-    pub fn encoding(self, prefixes: &Prefixes) -> OperandEncoding
-        ensures { result ≡ last_encoding self prefixes.now }
+    pub fn settled(self, num: u8, prefixes: &Prefixes) -> OperandEncoding
+        ensures { result ≡ settled self num prefixes.now }
+    {
+        let of_word = prefixes.operand_size() && !prefixes.has_w();
+        match self {
+            OperandEncoding::Z(slot, width, _) => OperandEncoding::Z(slot, width, num),
+            OperandEncoding::Iv | OperandEncoding::Ivq | OperandEncoding::Ip if of_word =>
+                OperandEncoding::I16,
+            OperandEncoding::Iv if prefixes.has_w() => OperandEncoding::I64,
+            OperandEncoding::Ivq if prefixes.has_w() => OperandEncoding::I64Whole,
+            OperandEncoding::Jv if of_word => OperandEncoding::I32From16,
+            OperandEncoding::Iv
+            | OperandEncoding::Ivq
+            | OperandEncoding::Ip
+            | OperandEncoding::Jv => OperandEncoding::I32,
+            OperandEncoding::Offset if prefixes.address_size() => OperandEncoding::Address32,
+            OperandEncoding::Offset => OperandEncoding::Address64,
+            encoding => encoding,
+        }
+    }
+}
+
+impl OperandEncodings {
+    /// The operands in a plan.
+    pub fn settled(self, num: u8, prefixes: &Prefixes) -> OperandEncodings
+        ensures { result ≡ all_settled self num prefixes.now }
     {
         match self {
-            Last::Absent => OperandEncoding::ConstantU8(0),
-            Last::I8 => OperandEncoding::I8,
-            Last::U8 => OperandEncoding::U8,
-            Last::U16 => OperandEncoding::U16,
-            Last::I32 => OperandEncoding::I32,
-            Last::Iv => match prefixes.size_prefixes() {
-                SizePrefixes::Neither => OperandEncoding::I32,
-                SizePrefixes::OperandSize => OperandEncoding::I16,
-                SizePrefixes::W | SizePrefixes::Both => OperandEncoding::I64,
-            },
-            Last::Ivq => match prefixes.size_prefixes() {
-                SizePrefixes::Neither => OperandEncoding::I32,
-                SizePrefixes::OperandSize => OperandEncoding::I16,
-                SizePrefixes::W | SizePrefixes::Both => OperandEncoding::I64Whole,
-            },
-            Last::Ip => match prefixes.size_prefixes() {
-                SizePrefixes::OperandSize => OperandEncoding::I16,
-                _ => OperandEncoding::I32,
-            },
-            Last::SignedOne => OperandEncoding::ConstantI8(1),
-            Last::UnsignedOne => OperandEncoding::ConstantU8(1),
-            Last::Three => OperandEncoding::ConstantU8(3),
-            Last::Cl => OperandEncoding::Fixed(RegisterSlot::Reg, RegSpec::b(1)),
-            Last::ClThird => OperandEncoding::Fixed(RegisterSlot::Third, RegSpec::b(1)),
+            OperandEncodings::Zero => OperandEncodings::Zero,
+            OperandEncodings::One(a) => OperandEncodings::One(a.settled(num, prefixes)),
+            OperandEncodings::Two(a, b) => OperandEncodings::Two(
+                a.settled(num, prefixes),
+                b.settled(num, prefixes),
+            ),
+            OperandEncodings::Three(a, b, c) => OperandEncodings::Three(
+                a.settled(num, prefixes),
+                b.settled(num, prefixes),
+                c.settled(num, prefixes),
+            ),
+            OperandEncodings::Four(a, b, c, d) => OperandEncodings::Four(
+                a.settled(num, prefixes),
+                b.settled(num, prefixes),
+                c.settled(num, prefixes),
+                d.settled(num, prefixes),
+            ),
         }
     }
 }

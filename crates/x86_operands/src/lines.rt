@@ -9,14 +9,14 @@ use crate::{FormEncoding, RegGroup};
 /// The line of each form by the number that words have for it. A form that carries a number has eight.
 pub(crate) const ENCODINGS: &[FormEncoding; 199] = &[
     other!(ByPlan(ModrmUse::Absent)), // the number 0, which no form has
-    encoded!(Opcode R Vq B Absent Eight Eight), // Zv_R
-    encoded!(Opcode R Vq B Absent Eight Eight), // Zv_R
-    encoded!(Opcode R Vq B Absent Eight Eight), // Zv_R
-    encoded!(Opcode R Vq B Absent Eight Eight), // Zv_R
-    encoded!(Opcode R Vq B Absent Eight Eight), // Zv_R
-    encoded!(Opcode R Vq B Absent Eight Eight), // Zv_R
-    encoded!(Opcode R Vq B Absent Eight Eight), // Zv_R
-    encoded!(Opcode R Vq B Absent Eight Eight), // Zv_R
+    encoded!(Opcode R Vq B ABSENT Eight Eight), // Zv_R
+    encoded!(Opcode R Vq B ABSENT Eight Eight), // Zv_R
+    encoded!(Opcode R Vq B ABSENT Eight Eight), // Zv_R
+    encoded!(Opcode R Vq B ABSENT Eight Eight), // Zv_R
+    encoded!(Opcode R Vq B ABSENT Eight Eight), // Zv_R
+    encoded!(Opcode R Vq B ABSENT Eight Eight), // Zv_R
+    encoded!(Opcode R Vq B ABSENT Eight Eight), // Zv_R
+    encoded!(Opcode R Vq B ABSENT Eight Eight), // Zv_R
     other!(ByPlan(ModrmUse::Absent)), // Zv_AX_R
     other!(ByPlan(ModrmUse::Absent)), // Zv_AX_R
     other!(ByPlan(ModrmUse::Absent)), // Zv_AX_R
@@ -41,21 +41,21 @@ pub(crate) const ENCODINGS: &[FormEncoding; 199] = &[
     encoded!(Opcode R_I V B Ivq Zero Zero), // Zv_Ivq_R
     encoded!(Opcode R_I V B Ivq Zero Zero), // Zv_Ivq_R
     encoded!(Opcode R_I V B Ivq Zero Zero), // Zv_Ivq_R
-    encoded!(Opcode R V B Absent Zero Zero), // Zv_B
-    encoded!(Opcode R V B Absent Zero Zero), // Zv_B
-    encoded!(Opcode R V B Absent Zero Zero), // Zv_B
-    encoded!(Opcode R V B Absent Zero Zero), // Zv_B
-    encoded!(Opcode R V B Absent Zero Zero), // Zv_B
-    encoded!(Opcode R V B Absent Zero Zero), // Zv_B
-    encoded!(Opcode R V B Absent Zero Zero), // Zv_B
-    encoded!(Opcode R V B Absent Zero Zero), // Zv_B
-    encoded!(EitherForm E_G B B Absent One One), // Eb_Gb
-    encoded!(EitherForm E_G V V Absent V V), // Ev_Gv
-    encoded!(EitherForm G_E B B Absent One One), // Gb_Eb
-    encoded!(EitherForm G_E V V Absent V V), // Gv_Ev
+    encoded!(Opcode R V B ABSENT Zero Zero), // Zv_B
+    encoded!(Opcode R V B ABSENT Zero Zero), // Zv_B
+    encoded!(Opcode R V B ABSENT Zero Zero), // Zv_B
+    encoded!(Opcode R V B ABSENT Zero Zero), // Zv_B
+    encoded!(Opcode R V B ABSENT Zero Zero), // Zv_B
+    encoded!(Opcode R V B ABSENT Zero Zero), // Zv_B
+    encoded!(Opcode R V B ABSENT Zero Zero), // Zv_B
+    encoded!(Opcode R V B ABSENT Zero Zero), // Zv_B
+    encoded!(EitherForm E_G B B ABSENT One One), // Eb_Gb
+    encoded!(EitherForm E_G V V ABSENT V V), // Ev_Gv
+    encoded!(EitherForm G_E B B ABSENT One One), // Gb_Eb
+    encoded!(EitherForm G_E V V ABSENT V V), // Gv_Ev
     encoded!(Accumulator R_I B B I8 Zero Zero), // AL_Ibs
     encoded!(Accumulator R_I V B Iv Zero Zero), // AX_Ivd
-    encoded!(EitherForm G_E Q D Absent Four V), // Gdq_Ed
+    encoded!(EitherForm G_E Q D ABSENT Four V), // Gdq_Ed
     encoded!(Nothing I B B Ip Eight Eight), // PushIvs
     encoded!(EitherForm G_E_I V V Iv V V), // Gv_Ev_Iv
     encoded!(Nothing I B B I8 Eight Eight), // PushIbs
@@ -69,13 +69,13 @@ pub(crate) const ENCODINGS: &[FormEncoding; 199] = &[
     other!(ByReg(RegGroup::G81)), // ModRM_0x81
     other!(ByReg(RegGroup::G83)), // ModRM_0x83
     other!(ByPlan(ModrmUse::EitherForm)), // Ew_Sw
-    encoded!(Memory G_E V B Absent V V), // Gv_M
+    encoded!(Memory G_E V B ABSENT V V), // Gv_M
     other!(ByPlan(ModrmUse::EitherForm)), // Sw_Ew
     other!(Group), // ModRM_0x8f
     other!(ByPlan(ModrmUse::Absent)), // CVT_AA
     other!(ByPlan(ModrmUse::Absent)), // CVT_DA
-    encoded!(Nothing NO B B Absent Bare Bare), // Nothing
-    encoded!(Nothing NO B B Absent Zero Zero), // AH
+    encoded!(Nothing NO B B ABSENT Bare Bare), // Nothing
+    encoded!(Nothing NO B B ABSENT Zero Zero), // AH
     other!(ByPlan(ModrmUse::Absent)), // AL_Ob
     other!(ByPlan(ModrmUse::Absent)), // AX_Ov
     other!(ByPlan(ModrmUse::Absent)), // Ob_AL
@@ -92,7 +92,7 @@ pub(crate) const ENCODINGS: &[FormEncoding; 199] = &[
     other!(ByReg(RegGroup::C6)), // ModRM_0xc6
     other!(ByReg(RegGroup::C7)), // ModRM_0xc7
     other!(ByPlan(ModrmUse::Absent)), // Iw_Ib
-    encoded!(Nothing I B B Three Zero Zero), // I_3
+    encoded!(Nothing I B B THREE Zero Zero), // I_3
     encoded!(Nothing I B B U8 Zero Zero), // Ib
     other!(ByPlan(ModrmUse::Absent)), // Fw
     other!(ByReg(RegGroup::D0)), // ModRM_0xd0
@@ -117,19 +117,19 @@ pub(crate) const ENCODINGS: &[FormEncoding; 199] = &[
     other!(ByPlan(ModrmUse::Absent)), // AX_DX
     other!(ByPlan(ModrmUse::Absent)), // DX_AL
     other!(ByPlan(ModrmUse::Absent)), // DX_AX
-    encoded!(Nothing I B B UnsignedOne Zero Zero), // I_1
+    encoded!(Nothing I B B UNSIGNED_ONE Zero Zero), // I_1
     other!(ByReg(RegGroup::F6)), // ModRM_0xf6
     other!(ByReg(RegGroup::F7)), // ModRM_0xf7
     other!(ByReg(RegGroup::FE)), // ModRM_0xfe
     other!(ByReg(RegGroup::FF)), // ModRM_0xff
     other!(Group), // ModRM_0x0f00
     other!(Group), // ModRM_0x0f01
-    encoded!(EitherForm G_E V V Absent Two V), // Gv_Ew_LAR
-    encoded!(EitherForm G_E V Vd Absent Two V), // Gv_Ew_LSL
+    encoded!(EitherForm G_E V V ABSENT Two V), // Gv_Ew_LAR
+    encoded!(EitherForm G_E V Vd ABSENT Two V), // Gv_Ew_LSL
     other!(Group), // ModRM_0x0f0d
     other!(Group), // ModRM_0x0f0f
     other!(Group), // ModRM_0x0f18
-    encoded!(EitherForm E B V Absent V V), // Ev
+    encoded!(EitherForm E B V ABSENT V V), // Ev
     other!(Group), // Rq_Cq_0
     other!(Group), // Rq_Dq_0
     other!(Group), // Cq_Rq_0
@@ -137,61 +137,61 @@ pub(crate) const ENCODINGS: &[FormEncoding; 199] = &[
     other!(Group), // ModRM_0x0f71
     other!(Group), // ModRM_0x0f72
     other!(Group), // ModRM_0x0f73
-    encoded!(EitherForm E B B Absent One One), // Eb_R0
+    encoded!(EitherForm E B B ABSENT One One), // Eb_R0
     other!(ByPlan(ModrmUse::Absent)), // FS
     encoded!(EitherForm E_G_I V V I8 V V), // Ev_Gv_Ib
-    encoded!(EitherForm E_G_I V V ClThird V V), // Ev_Gv_CL
+    encoded!(EitherForm E_G_I V V CL_THIRD V V), // Ev_Gv_CL
     other!(ByPlan(ModrmUse::Absent)), // GS
     other!(Group), // ModRM_0x0fae
     other!(ByPlan(ModrmUse::EitherForm)), // INV_Gv_M
-    encoded!(EitherForm G_E V B Absent One Zero), // Gv_Eb
-    encoded!(EitherForm G_E V W Absent Two Zero), // Gv_Ew
+    encoded!(EitherForm G_E V B ABSENT One Zero), // Gv_Eb
+    encoded!(EitherForm G_E V W ABSENT Two Zero), // Gv_Ew
     other!(Group), // ModRM_0x0fba
     other!(Group), // ModRM_0x0fc7
-    encoded!(EitherForm G_E D D Absent Four V), // Gd_Ed
-    encoded!(EitherForm G_E Mm Mm Absent Unpack V), // G_E_mm
-    encoded!(EitherForm G_E X X Absent Duplicate V), // G_E_xmm
-    encoded!(EitherForm E_G X X Absent Sixteen V), // E_G_xmm
+    encoded!(EitherForm G_E D D ABSENT Four V), // Gd_Ed
+    encoded!(EitherForm G_E Mm Mm ABSENT Unpack V), // G_E_mm
+    encoded!(EitherForm G_E X X ABSENT Duplicate V), // G_E_xmm
+    encoded!(EitherForm E_G X X ABSENT Sixteen V), // E_G_xmm
     other!(Group), // ModRM_0x0f12
     other!(Group), // ModRM_0x0f16
-    encoded!(Memory E_G X B Absent Stream Stream), // M_G_xmm
-    encoded!(EitherForm G_E X Mm Absent Eight V), // G_xmm_E_mm
-    encoded!(EitherForm G_E Mm X Absent Sixteen V), // G_mm_E_xmm
-    encoded!(FormByOpcode G_E X X Absent Extend V), // PMOVX_G_E_xmm
-    encoded!(Registers G_E D X Absent V V), // Gd_U_xmm
-    encoded!(EitherForm G_E Mm Dq Absent V V), // G_mm_Edq
-    encoded!(EitherForm G_E Mm Mm Absent Eight V), // G_mm_E
+    encoded!(Memory E_G X B ABSENT Stream Stream), // M_G_xmm
+    encoded!(EitherForm G_E X Mm ABSENT Eight V), // G_xmm_E_mm
+    encoded!(EitherForm G_E Mm X ABSENT Sixteen V), // G_mm_E_xmm
+    encoded!(FormByOpcode G_E X X ABSENT Extend V), // PMOVX_G_E_xmm
+    encoded!(Registers G_E D X ABSENT V V), // Gd_U_xmm
+    encoded!(EitherForm G_E Mm Dq ABSENT V V), // G_mm_Edq
+    encoded!(EitherForm G_E Mm Mm ABSENT Eight V), // G_mm_E
     encoded!(EitherForm G_E_I Mm Mm I8 Eight Zero), // G_E_mm_Ib
-    encoded!(EitherForm E_G Q Q Absent Eight V), // E_G_q
-    encoded!(EitherForm G_E Q Q Absent Eight V), // G_E_q
-    encoded!(EitherForm E_G Mm Dq Absent Dq V), // Edq_G_mm
-    encoded!(EitherForm E_G Mm Mm Absent Eight V), // E_G_mm
+    encoded!(EitherForm E_G Q Q ABSENT Eight V), // E_G_q
+    encoded!(EitherForm G_E Q Q ABSENT Eight V), // G_E_q
+    encoded!(EitherForm E_G Mm Dq ABSENT Dq V), // Edq_G_mm
+    encoded!(EitherForm E_G Mm Mm ABSENT Eight V), // E_G_mm
     encoded!(EitherForm G_E_I X X I8 Scalar V), // G_E_xmm_Ib
-    encoded!(Memory E_G Dq B Absent Dq Dq), // Mdq_Gdq
+    encoded!(Memory E_G Dq B ABSENT Dq Dq), // Mdq_Gdq
     encoded!(EitherForm G_E_I Mm D I8 Two V), // G_mm_Ew_Ib
     other!(ByPlan(ModrmUse::EitherForm)), // Rv_Gmm_Ib
-    encoded!(Registers G_E D Mm Absent V V), // G_U_mm
-    encoded!(Memory E_G Mm B Absent Eight Eight), // G_Mq_mm
-    encoded!(Registers G_E Mm Mm Absent Eight Eight), // G_mm_U_mm
-    encoded!(EitherForm G_E X Dq Absent V V), // G_xmm_Edq
+    encoded!(Registers G_E D Mm ABSENT V V), // G_U_mm
+    encoded!(Memory E_G Mm B ABSENT Eight Eight), // G_Mq_mm
+    encoded!(Registers G_E Mm Mm ABSENT Eight Eight), // G_mm_U_mm
+    encoded!(EitherForm G_E X Dq ABSENT V V), // G_xmm_Edq
     other!(Group), // ModRM_0x660f78
-    encoded!(Registers G_E X X Absent V V), // G_U_xmm
+    encoded!(Registers G_E X X ABSENT V V), // G_U_xmm
     other!(ByPlan(ModrmUse::EitherForm)), // Edq_G_xmm
     encoded!(EitherForm G_E_I X D U8 Two V), // G_xmm_Ew_Ib
     encoded!(Registers G_E_I D X U8 V V), // G_U_xmm_Ub
-    encoded!(EitherForm E_G X X Absent Eight V), // PMOVX_E_G_xmm
-    encoded!(Registers G_E X X Absent Sixteen Sixteen), // MASKMOVDQU
-    encoded!(EitherForm G_E X X Absent Four V), // G_Ed_xmm
-    encoded!(EitherForm E_G X X Absent Four V), // Ed_G_xmm
+    encoded!(EitherForm E_G X X ABSENT Eight V), // PMOVX_E_G_xmm
+    encoded!(Registers G_E X X ABSENT Sixteen Sixteen), // MASKMOVDQU
+    encoded!(EitherForm G_E X X ABSENT Four V), // G_Ed_xmm
+    encoded!(EitherForm E_G X X ABSENT Four V), // Ed_G_xmm
     other!(Group), // ModRM_0xf30f1e
-    encoded!(EitherForm G_E V X Absent Four V), // Gv_E_xmm
-    encoded!(EitherForm G_E X X Absent Eight V), // MOVQ_f30f
-    encoded!(Registers G_E X Mm Absent V V), // G_xmm_U_mm
-    encoded!(EitherForm G_E V X Absent Eight V), // Gdq_Eq_xmm
+    encoded!(EitherForm G_E V X ABSENT Four V), // Gv_E_xmm
+    encoded!(EitherForm G_E X X ABSENT Eight V), // MOVQ_f30f
+    encoded!(Registers G_E X Mm ABSENT V V), // G_xmm_U_mm
+    encoded!(EitherForm G_E V X ABSENT Eight V), // Gdq_Eq_xmm
     other!(Group), // ModRM_0xf20f78
-    encoded!(Registers G_E Mm X Absent V V), // G_mm_U_xmm
-    encoded!(Memory G_E X B Absent Sixteen Sixteen), // G_M_xmm
-    encoded!(Memory E_G V B Absent V V), // M_Gv
+    encoded!(Registers G_E Mm X ABSENT V V), // G_mm_U_xmm
+    encoded!(Memory G_E X B ABSENT Sixteen Sixteen), // G_M_xmm
+    encoded!(Memory E_G V B ABSENT V V), // M_Gv
     other!(ByPlan(ModrmUse::EitherForm)), // MOVDIR64B
     other!(Group), // ModRM_0xf30f38d8
     other!(Group), // ModRM_0xf30f38dc
@@ -200,7 +200,7 @@ pub(crate) const ENCODINGS: &[FormEncoding; 199] = &[
     other!(Group), // ModRM_0xf30f38df
     other!(Group), // ModRM_0xf30f38fa
     other!(Group), // ModRM_0xf30f38fb
-    encoded!(EitherForm G_E Dq V Absent Four V), // Gdq_Ev
+    encoded!(EitherForm G_E Dq V ABSENT Four V), // Gdq_Ev
     encoded!(EitherForm G_E_I X X U8 Sixteen V), // G_E_xmm_Ub
     encoded!(EitherForm E_G_I X V U8 Extract Extract), // Ev_G_xmm_Ib
     other!(ByPlan(ModrmUse::EitherForm)), // Pextr_dq

@@ -3,21 +3,21 @@
 ghost use Rattle.std.specs.Prelude.{◌≡◌, ◌<◌, ◌≢◌, ℕ, Option, true};
 ghost use Rattle.x86_fields.specs.Steps.{outcome};
 ghost use Rattle.x86_operands.specs.Vocabulary.{Nowhere, Prefixes, Raw};
-ghost use Rattle.x86_operands.specs.PlanSteps.{memory_or, read_plan};
-ghost use Rattle.x86_operands.specs.OperandList.{is_last_encoding, reg_pair, fixed_pair, no_operands, reading_with, value_if_ok, put_in, put_at, put_encoded, encoded_read, leading_read, slot_in, operand_in};
-ghost use Rattle.x86_operands.specs.Encodings.{plan_of, last_encoding, allows, is_sound, order_fits};
+ghost use Rattle.x86_operands.specs.PlanSteps.{memory_or, read_plan, register_slot};
+ghost use Rattle.x86_operands.specs.OperandList.{reg_pair, fixed_pair, no_operands, reading_with, value_if_ok, put_in, put_at, put_encoded, encoded_read, leading_read, slot_in, operand_in};
+ghost use Rattle.x86_operands.specs.Encodings.{plan_of, settled, is_last, allows, is_sound, order_fits};
 
 use crate::order::Position;
-use crate::plans::{OperandEncoding, PointerSlot, RegisterSlot};
+use crate::plans::{OperandEncoding, RegisterSlot};
 use crate::shapes::put_shape;
-use crate::{AfterOpcode, FormEncoding, Last, Operand, Slot};
+use crate::{AfterOpcode, FormEncoding, Operand, Slot};
 use x86_arch::Reader;
 use x86_fields::{
     DecodeError, ModRM, PrefixedModRM, Prefixes, Raw, Width, extend, read_raw, read_u8, read_u16,
     read_u32, read_u64,
 };
 use x86_opcodes::Opcode;
-use x86_regs::{RegSpec, RegisterClass};
+use x86_regs::RegSpec;
 
 /// The operands of an instruction, in the order in which a listing names them.
 #[derive(Clone, Copy, Debug, Drop)]
@@ -42,15 +42,27 @@ impl Operands {
         self.operands[at] = operand;
     }
 
-    fn put_register(&mut self, at: usize, slot: Slot, reg: RegSpec)
+    pub(crate) fn put_register(&mut self, at: usize, slot: Slot, reg: RegSpec)
         requires { at < 4 }
         ensures { self.new ≡ put_at at (slot, Operand.Register reg) self.old }
     {
         self.put_at(at, slot, Operand::Register { reg });
     }
 
+    pub(crate) fn put_in_slot(&mut self, at: usize, slot: RegisterSlot, reg: RegSpec)
+        requires { at < 4 }
+        ensures { self.new ≡ put_at at (register_slot slot, Operand.Register reg) self.old }
+    {
+        let slot = match slot {
+            RegisterSlot::Reg => Slot::Reg,
+            RegisterSlot::Rm => Slot::Rm,
+            RegisterSlot::Third => Slot::Third,
+        };
+        self.put_register(at, slot, reg);
+    }
+
     /// The operand of rm: memory where it was read, else the register.
-    fn put_rm(&mut self, at: usize, memory: Option<Raw>, reg: RegSpec)
+    pub(crate) fn put_rm(&mut self, at: usize, memory: Option<Raw>, reg: RegSpec)
         requires { at < 4 }
         ensures { self.new ≡ put_at at (memory_or reg memory) self.old }
     {
@@ -67,7 +79,7 @@ impl Operands {
         self.put_at(at, Slot::ImmI8, Operand::ImmediateI8 { imm });
     }
 
-    fn put_u8(&mut self, at: usize, imm: u8)
+    pub(crate) fn put_u8(&mut self, at: usize, imm: u8)
         requires { at < 4 }
         ensures { self.new ≡ put_at at (Slot.ImmU8, Operand.ImmediateU8 imm) self.old }
     {
@@ -81,14 +93,14 @@ impl Operands {
         self.put_at(at, Slot::ImmI16, Operand::ImmediateI16 { imm });
     }
 
-    fn put_u16(&mut self, at: usize, slot: Slot, imm: u16)
+    pub(crate) fn put_u16(&mut self, at: usize, slot: Slot, imm: u16)
         requires { at < 4 }
         ensures { self.new ≡ put_at at (slot, Operand.ImmediateU16 imm) self.old }
     {
         self.put_at(at, slot, Operand::ImmediateU16 { imm });
     }
 
-    fn put_i32(&mut self, at: usize, imm: i32)
+    pub(crate) fn put_i32(&mut self, at: usize, imm: i32)
         requires { at < 4 }
         ensures { self.new ≡ put_at at (Slot.ImmI32, Operand.ImmediateI32 imm) self.old }
     {
@@ -105,14 +117,14 @@ impl Operands {
     /// Writes the operand of a last encoding at an index: an immediate, or a constant that no byte spells.
     #[tactic(auto, unfolding(crate::specs::PlanSteps::operand_step))]
     #[inline(always)]
-    fn put_last<T: Reader<u64, u8>>(
+    pub(crate) fn put_last<T: Reader<u64, u8>>(
         &mut self,
         at: usize,
         reader: &mut T,
         encoding: OperandEncoding,
     ) -> Result<(), DecodeError>
         requires index { at < 4 }
-        requires last { is_last_encoding encoding ≡ true }
+        requires last { is_last encoding ≡ true }
         ensures { (p : Prefixes) (m : ℕ) (memory : Option Raw) →
             outcome (value_if_ok result self.new) (T.state reader.new)
             ≡ put_encoded at encoding p m memory self.old (T.state reader.old) }
@@ -127,81 +139,11 @@ impl Operands {
             OperandEncoding::I64Whole => self.put_i64(at, read_u64(reader)?.cast_signed()),
             OperandEncoding::ConstantI8(imm) => self.put_i8(at, imm),
             OperandEncoding::ConstantU8(imm) => self.put_u8(at, imm),
-            OperandEncoding::Fixed(slot, reg) => {
-                let slot = match slot {
-                    RegisterSlot::Reg => Slot::Reg,
-                    RegisterSlot::Rm => Slot::Rm,
-                    RegisterSlot::Third => Slot::Third,
-                };
-                self.put_register(at, slot, reg);
+            OperandEncoding::Implied(slot, num, class) => {
+                self.put_in_slot(at, slot, RegSpec::of(num, class));
             }
-            // No last operand has another encoding.
-            _ => {}
-        }
-        Ok(())
-    }
-
-    /// What an operand encoding yields, at an index: one call, since it is large.
-    #[tactic(auto, unfolding(crate::specs::PlanSteps::operand_step))]
-    #[inline(never)]
-    pub(crate) fn put_encoded<T: Reader<u64, u8>>(
-        &mut self,
-        at: usize,
-        reader: &mut T,
-        encoding: OperandEncoding,
-        prefixes: &Prefixes,
-        modrm: ModRM,
-        memory: Option<Raw>,
-    ) -> Result<(), DecodeError>
-        requires { at < 4 }
-        ensures { outcome (value_if_ok result self.new) (T.state reader.new)
-            ≡ put_encoded at encoding prefixes.now modrm memory self.old (T.state reader.old) }
-    {
-        match encoding {
-            OperandEncoding::G(class) => {
-                let reg = prefixes.register(class, prefixes.reg_number(modrm));
-                self.put_register(at, Slot::Reg, reg);
-            }
-            OperandEncoding::E(class) | OperandEncoding::U(class) => {
-                let reg = prefixes.register(class, prefixes.rm_number(modrm));
-                self.put_rm(at, memory, reg);
-            }
-            OperandEncoding::M => {
-                let reg = prefixes.register(RegisterClass::Q, prefixes.rm_number(modrm));
-                self.put_rm(at, memory, reg);
-            }
-            OperandEncoding::Gmm => self.put_register(
-                at,
-                Slot::Reg,
-                RegSpec::mm(modrm.reg_field()),
-            ),
-            OperandEncoding::Emm | OperandEncoding::Umm => self.put_rm(
-                at,
-                memory,
-                RegSpec::mm(modrm.rm_field()),
-            ),
-            OperandEncoding::Pointer(slot, base) => {
-                let slot = match slot {
-                    PointerSlot::Deref => Slot::Deref,
-                    PointerSlot::DerefEsi => Slot::DerefEsi,
-                    PointerSlot::DerefEdi => Slot::DerefEdi,
-                    PointerSlot::DerefRsi => Slot::DerefRsi,
-                    PointerSlot::DerefRdi => Slot::DerefRdi,
-                };
-                self.put_at(at, slot, Operand::MemDeref { base });
-            }
-            OperandEncoding::I32From16 => self.put_i32(at, read_u16(reader)?.cast_signed() as i32),
-            OperandEncoding::X8 => self.put_u16(at, Slot::ImmInDisp, read_u8(reader)? as u16),
-            OperandEncoding::X16 => self.put_u16(at, Slot::ImmInDisp, read_u16(reader)?),
-            OperandEncoding::Address32 => {
-                let addr = read_u32(reader)?;
-                self.put_at(at, Slot::DispU32, Operand::AbsoluteU32 { addr });
-            }
-            OperandEncoding::Address64 => {
-                let addr = read_u64(reader)?;
-                self.put_at(at, Slot::DispU64, Operand::AbsoluteU64 { addr });
-            }
-            encoding => return self.put_last(at, reader, encoding),
+            // No last operand of a plan has another encoding.
+            _ => self.put_u8(at, 0),
         }
         Ok(())
     }
@@ -213,14 +155,15 @@ impl Operands {
         &mut self,
         at: Position,
         reader: &mut T,
-        last: Last,
+        last: OperandEncoding,
         prefixes: &Prefixes,
     ) -> Result<(), DecodeError>
-        requires { at ≢ Nowhere }
+        requires position { at ≢ Nowhere }
+        requires last { is_last last ≡ true }
         ensures { outcome (value_if_ok result self.new) (T.state reader.new) ≡ encoded_read at
-            (last_encoding last prefixes.now) prefixes.now self.old (T.state reader.old) }
+            (settled last 0 prefixes.now) prefixes.now self.old (T.state reader.old) }
     {
-        self.put_last(at as usize, reader, last.encoding(prefixes))
+        self.put_last(at as usize, reader, last.settled(0, prefixes))
     }
 
     /// The register of reg, if it is an operand.

@@ -1,7 +1,8 @@
 //! The vocabulary of the rows' records.
 pub use x86_fields::UNDECIDED_SIZE;
+use x86_fields::Width;
 use x86_opcodes::Opcode;
-use x86_regs::{RegSpec, RegisterClass};
+use x86_regs::RegisterClass;
 
 /// The slot of a register that isn't known from the encoding of its operand.
 #[derive(Clone, Copy, Drop)]
@@ -21,27 +22,43 @@ pub enum PointerSlot {
     DerefRdi,
 }
 
-/// What a record has for one operand, in the letters of the Intel SDM, volume 2, appendix A.2.
+/// An operand of a row, of a line or of a plan, in the letters of the Intel SDM, volume 2, appendix A.2.
 #[derive(Clone, Copy, Drop)]
 pub enum OperandEncoding {
     /// The register of reg, with R.
-    G(RegisterClass),
+    G(Width),
     /// The mm register of reg, without R.
     Gmm,
     /// The register of rm with B, or the memory operand.
-    E(RegisterClass),
+    E(Width),
     /// The mm register of rm without B, or the memory operand.
     Emm,
     /// `E` in the memory form.
     M,
     /// `E` in the register form.
-    U(RegisterClass),
+    U(Width),
     /// `Emm` in the register form.
     Umm,
-    /// A register that the record names.
-    Fixed(RegisterSlot, RegSpec),
-    /// Memory at a register that the record names.
-    Pointer(PointerSlot, RegSpec),
+    /// The control register of reg, with R.
+    Cr,
+    /// The debug register of reg, with R.
+    Dr,
+    /// The segment register of reg, with R.
+    Sr,
+    /// st(rm).
+    StRm,
+    /// The register of 4 bytes of rm with B, in the slot of reg.
+    RdInReg,
+    /// Register 0.
+    A(Width),
+    /// A register that the name implies: its slot, number and class.
+    Implied(RegisterSlot, u8, RegisterClass),
+    /// Memory at a register that the name implies: its slot, and the register's number and class.
+    At(PointerSlot, u8, RegisterClass),
+    /// Memory at rsi, or at esi under 67.
+    Source,
+    /// Memory at rdi, or at edi under 67.
+    Destination,
     /// A signed immediate of 1 byte.
     I8,
     /// A signed immediate of 2 bytes.
@@ -70,9 +87,40 @@ pub enum OperandEncoding {
     Address32,
     /// An address of 8 bytes.
     Address64,
+    /// The register of the opcode byte, with B: its slot, its width, and in a plan its number.
+    Z(RegisterSlot, Width, u8),
+    /// An immediate of v, at most 4 bytes. It is none of a plan, as those below.
+    Iv,
+    /// An immediate of v, with its whole width.
+    Ivq,
+    /// The immediate of PUSH.
+    Ip,
+    /// A distance of v: 2 bytes, or 4.
+    Jv,
+    /// An absolute address: 4 bytes under 67, else 8.
+    Offset,
 }
 
-/// The operand encodings of a record, at most four.
+impl OperandEncoding {
+    /// The last operand of a line that has none.
+    pub const ABSENT: OperandEncoding = OperandEncoding::ConstantU8(0);
+
+    pub const SIGNED_ONE: OperandEncoding = OperandEncoding::ConstantI8(1);
+
+    pub const UNSIGNED_ONE: OperandEncoding = OperandEncoding::ConstantU8(1);
+
+    pub const THREE: OperandEncoding = OperandEncoding::ConstantU8(3);
+
+    /// The register CL.
+    pub const CL: OperandEncoding = OperandEncoding::Implied(RegisterSlot::Reg, 1, B);
+
+    /// The register CL, after two others.
+    pub const CL_THIRD: OperandEncoding = OperandEncoding::Implied(RegisterSlot::Third, 1, B);
+}
+
+const B: RegisterClass = RegisterClass::B;
+
+/// The operands of a row or of a plan, at most four.
 #[derive(Clone, Copy, Drop)]
 pub enum OperandEncodings {
     Zero,

@@ -1,10 +1,9 @@
 //! Rows of forms: where each is, and what it has there. The first row that holds counts.
 ghost use Rattle.std.specs.Prelude.{◌≡◌, ◌&&◌};
-ghost use Rattle.x86_forms.specs.Words.{IsForm};
-ghost use Rattle.x86_operands.specs.Columns.{choose, is_placed, is_prefixed, is_reg, is_rm, is_named, named, opcode_of, plan_of_row};
+ghost use Rattle.x86_operands.specs.Columns.{choose, is_placed, is_prefixed, is_reg, is_rm, is_named, plan_of_row};
 
-use crate::letters::{Letters, RowSize};
-use crate::plans::{Plan, PrefixChange, Verdict};
+use crate::encodings::Size;
+use crate::plans::{OperandEncodings, Plan, PrefixChange, Verdict};
 use x86_fields::{Mandatory, ModRM, Prefixes};
 use x86_forms::TableRow;
 use x86_opcodes::Opcode;
@@ -76,6 +75,14 @@ pub enum Names {
     ByRm([u16; 8]),
 }
 
+/// The size of what is read or written in memory.
+#[derive(Clone, Copy, Drop)]
+pub enum RowSize {
+    Bytes(u8),
+    /// That of W and 66, or of the operation.
+    Of(Size),
+}
+
 /// With which ModRM bytes a row is.
 #[derive(Clone, Copy, Drop)]
 pub struct Where {
@@ -91,7 +98,7 @@ pub struct FormRow {
     pub when: When,
     pub names: Names,
     /// The operands. Those of a row that refuses are the ones whose bytes it has.
-    pub operands: Letters,
+    pub operands: OperandEncodings,
     /// The memory size in the memory form.
     pub in_memory: RowSize,
     /// The same in the register form, and without ModRM.
@@ -102,7 +109,7 @@ pub struct FormRow {
 }
 
 impl Where {
-    /// Whether a row is at a ModRM byte.
+    /// Whether a row is at a ModRM byte, if it has a name there.
     fn has(&self, strict: bool, modrm: ModRM) -> bool
         ensures { result ≡ is_placed self.now.place modrm && (is_reg self.now.reg modrm
             && is_rm self.now.rm strict modrm) }
@@ -130,6 +137,19 @@ impl Where {
 }
 
 impl FormRow {
+    /// Whether the row has its prefixes, and a name at a ModRM byte.
+    fn holds(&self, own: &TableRow, prefixes: &Prefixes, modrm: ModRM) -> bool
+        ensures { result ≡ is_prefixed self.now.when own.now prefixes.now
+            && is_named self.now.names modrm }
+    {
+        self.has_prefixes(own, prefixes)
+            && match self.names {
+                Names::Own | Names::Name(_) => true,
+                Names::ByReg(names) => names[modrm.reg_field() as usize] != 0,
+                Names::ByRm(names) => names[modrm.rm_field() as usize] != 0,
+            }
+    }
+
     fn has_prefixes(&self, own: &TableRow, prefixes: &Prefixes) -> bool
         ensures { result ≡ is_prefixed self.now.when own.now prefixes.now }
     {
@@ -165,64 +185,36 @@ pub fn choose(
     ensures { result ≡ choose rows.now own.now strict prefixes.now modrm }
 {
     for row in rows {
-        if row.at.has(strict, modrm)
-            && row.has_prefixes(own, prefixes)
-            && row.names.has_name(modrm)
-        {
+        if row.at.has(strict, modrm) && row.holds(own, prefixes, modrm) {
             return *row;
         }
     }
-    refusal!(Either Reg::Any, Rm::Any; When::Always; Letters::Zero; BadOpcode AtModRM)
-}
-
-/// The opcode of a number in a table.
-#[inline(always)]
-pub fn named(number: u16) -> Opcode
-    ensures { result ≡ named number }
-{
-    Opcode::from_number(number as u64).unwrap_or(Opcode::Invalid)
-}
-
-impl Names {
-    /// Whether there is a name at a ModRM byte.
-    fn has_name(&self, modrm: ModRM) -> bool
-        ensures { result ≡ is_named self.now modrm }
-    {
-        match self {
-            Names::Own | Names::Name(_) => true,
-            Names::ByReg(names) => names[modrm.reg_field() as usize] != 0,
-            Names::ByRm(names) => names[modrm.rm_field() as usize] != 0,
-        }
-    }
-
-    /// The operation at a ModRM byte.
-    fn opcode(&self, own: &TableRow, modrm: ModRM) -> Opcode
-        ensures { result ≡ opcode_of self.now own.now modrm }
-    {
-        match self {
-            Names::Own => own.opcode,
-            Names::Name(number) => named(*number),
-            Names::ByReg(names) => named(names[modrm.reg_field() as usize]),
-            Names::ByRm(names) => named(names[modrm.rm_field() as usize]),
-        }
-    }
+    refusal!(Either Reg::Any, Rm::Any; When::Always; OperandEncodings::Zero; BadOpcode AtModRM)
 }
 
 impl FormRow {
     /// The plan at a ModRM byte; `own` is the row in the opcode map.
     pub fn plan(&self, own: &TableRow, prefixes: &Prefixes, modrm: ModRM) -> Plan
-        requires { IsForm own.now.form }
         ensures { result ≡ plan_of_row self.now own.now prefixes.now modrm }
     {
+        let number = match self.names {
+            Names::Own => own.opcode.number(),
+            Names::Name(number) => number,
+            Names::ByReg(names) => names[modrm.reg_field() as usize],
+            Names::ByRm(names) => names[modrm.rm_field() as usize],
+        };
         let size = if modrm.is_memory() {
             self.in_memory
         } else {
             self.in_register
         };
         Plan {
-            opcode: self.names.opcode(own, modrm),
-            encodings: self.operands.encodings(own, prefixes, modrm),
-            size: size.bytes(own.opcode, prefixes),
+            opcode: Opcode::from_number(number as u64).unwrap_or(Opcode::Invalid),
+            encodings: self.operands.settled(own.form.carried(), prefixes),
+            size: match size {
+                RowSize::Bytes(bytes) => bytes,
+                RowSize::Of(size) => size.bytes(own.opcode, prefixes.size_prefixes()),
+            },
             change: self.change,
             verdict: self.verdict,
         }

@@ -6,57 +6,43 @@
 ghost use Rattle.std.specs.Prelude.{◌≡◌, ◌≤◌, ◌-◌, length, take, drop};
 ghost use Rattle.x86_operands.specs.Rows.{form_rows};
 
-use crate::letters::Letter;
-use crate::letters::Letter::{
-    A, At, Destination, E, Emm, G, Gmm, Implied, M, Offset, Source, Sr, U, Umm, X16, Z,
+use crate::Size;
+use crate::plans::OperandEncoding::{
+    A, At, ConstantU8, Destination, E, Emm, G, Gmm, I8, I32, Implied, Ip, Iv, Ivq, M, Offset,
+    Source, Sr, U, U8, U16, Umm, X16, Z,
 };
-use crate::letters::Letters::{One, Three, Two, Zero};
-use crate::letters::RowSize::{Bytes, Of};
-use crate::plans::{PointerSlot, RegisterSlot};
+use crate::plans::OperandEncodings::{One, Three, Two, Zero};
+use crate::plans::{OperandEncoding, PointerSlot, RegisterSlot};
 use crate::rows::Names::{Name, Own};
+use crate::rows::RowSize::{Bytes, Of};
 use crate::rows::When::{Always, Opcode, Register0, RexR, RexW, With66, With67};
 use crate::rows::{FormRow, Reg, Rm};
-use crate::{Last, Size};
 use x86_fields::Width::{B, D, Dq, Q, V, Vd, Vq, W, X};
 use x86_forms::Form;
 use x86_regs::RegisterClass;
 
-const I32: Letter = Letter::Last(Last::I32);
+const UNSIGNED_ONE: OperandEncoding = ConstantU8(1);
 
-const I8: Letter = Letter::Last(Last::I8);
-
-const IP: Letter = Letter::Last(Last::Ip);
-
-const IV: Letter = Letter::Last(Last::Iv);
-
-const IVQ: Letter = Letter::Last(Last::Ivq);
-
-const THREE: Letter = Letter::Last(Last::Three);
-
-const U16: Letter = Letter::Last(Last::U16);
-
-const U8: Letter = Letter::Last(Last::U8);
-
-const UNSIGNED_ONE: Letter = Letter::Last(Last::UnsignedOne);
+const THREE: OperandEncoding = ConstantU8(3);
 
 /// The rows of all forms, after that of a form that has none.
 pub(crate) const ROWS: &[FormRow; 157] = &[
     refusal!(Either Reg::Any, Rm::Any; Always; Zero; Incomplete AtModRM),
-    read!(Bare Reg::Any, Rm::Any; Always; Own; One(Z(RegisterSlot::Reg, Vq)); Bytes(8); Bytes(8)), // Zv_R
+    read!(Bare Reg::Any, Rm::Any; Always; Own; One(Z(RegisterSlot::Reg, Vq, 0)); Bytes(8); Bytes(8)), // Zv_R
     read!(Bare Reg::Any, Rm::Any; Register0; Name(76); Zero; Bytes(0); Bytes(0)), // Zv_AX_R NOP
-    read!(Bare Reg::Any, Rm::Any; Always; Own; Two(A(V), Z(RegisterSlot::Rm, V)); Bytes(0); Bytes(0)), // Zv_AX_R
-    read!(Bare Reg::Any, Rm::Any; Always; Own; Two(Z(RegisterSlot::Reg, B), U8); Bytes(0); Bytes(0)), // Zb_Ib_R
-    read!(Bare Reg::Any, Rm::Any; Always; Own; Two(Z(RegisterSlot::Reg, V), IVQ); Bytes(0); Bytes(0)), // Zv_Ivq_R
-    read!(Bare Reg::Any, Rm::Any; Always; Own; One(Z(RegisterSlot::Reg, V)); Bytes(0); Bytes(0)), // Zv_B
+    read!(Bare Reg::Any, Rm::Any; Always; Own; Two(A(V), Z(RegisterSlot::Rm, V, 0)); Bytes(0); Bytes(0)), // Zv_AX_R
+    read!(Bare Reg::Any, Rm::Any; Always; Own; Two(Z(RegisterSlot::Reg, B, 0), U8); Bytes(0); Bytes(0)), // Zb_Ib_R
+    read!(Bare Reg::Any, Rm::Any; Always; Own; Two(Z(RegisterSlot::Reg, V, 0), Ivq); Bytes(0); Bytes(0)), // Zv_Ivq_R
+    read!(Bare Reg::Any, Rm::Any; Always; Own; One(Z(RegisterSlot::Reg, V, 0)); Bytes(0); Bytes(0)), // Zv_B
     read!(Either Reg::Any, Rm::Any; Always; Own; Two(E(B), G(B)); Bytes(1); Bytes(1)), // Eb_Gb
     read!(Either Reg::Any, Rm::Any; Always; Own; Two(E(V), G(V)); Of(Size::V); Of(Size::V)), // Ev_Gv
     read!(Either Reg::Any, Rm::Any; Always; Own; Two(G(B), E(B)); Bytes(1); Bytes(1)), // Gb_Eb
     read!(Either Reg::Any, Rm::Any; Always; Own; Two(G(V), E(V)); Of(Size::V); Of(Size::V)), // Gv_Ev
     read!(Bare Reg::Any, Rm::Any; Always; Own; Two(A(B), I8); Bytes(0); Bytes(0)), // AL_Ibs
-    read!(Bare Reg::Any, Rm::Any; Always; Own; Two(A(V), IV); Bytes(0); Bytes(0)), // AX_Ivd
+    read!(Bare Reg::Any, Rm::Any; Always; Own; Two(A(V), Iv); Bytes(0); Bytes(0)), // AX_Ivd
     read!(Either Reg::Any, Rm::Any; Always; Own; Two(G(Q), E(D)); Bytes(4); Of(Size::V)), // Gdq_Ed
-    read!(Bare Reg::Any, Rm::Any; Always; Own; One(IP); Bytes(8); Bytes(8)), // PushIvs
-    read!(Either Reg::Any, Rm::Any; Always; Own; Three(G(V), E(V), IV); Of(Size::V); Of(Size::V)), // Gv_Ev_Iv
+    read!(Bare Reg::Any, Rm::Any; Always; Own; One(Ip); Bytes(8); Bytes(8)), // PushIvs
+    read!(Either Reg::Any, Rm::Any; Always; Own; Three(G(V), E(V), Iv); Of(Size::V); Of(Size::V)), // Gv_Ev_Iv
     read!(Bare Reg::Any, Rm::Any; Always; Own; One(I8); Bytes(8); Bytes(8)), // PushIbs
     read!(Either Reg::Any, Rm::Any; Always; Own; Three(G(V), E(V), I8); Of(Size::V); Of(Size::V)), // Gv_Ev_Ib
     read!(Bare Reg::Any, Rm::Any; Always; Own; Two(At(PointerSlot::Deref, 7, RegisterClass::Q), Implied(RegisterSlot::Reg, 2, RegisterClass::B)); Bytes(1); Bytes(1)), // Yb_DX

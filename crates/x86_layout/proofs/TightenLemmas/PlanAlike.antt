@@ -1,6 +1,6 @@
 -- In the memory form a plan goes by reg, and not by mod, rm, and the bits X and B. It refuses, or writes the memory as an
 -- operand.
-use Rattle.std.proofs.Common.{◌≡◌, ℕ, ◌||◌, Bool, if◌then◌else◌, true, false, Option, Some, None, refl, arith}
+use Rattle.std.proofs.Common.{◌≡◌, ℕ, ◌||◌, Bool, if◌then◌else◌, true, false, Option, Some, None, refl, ◌∙◌, arith}
 use Rattle.std.specs.List.{list_all, list_any}
 use Rattle.std.proofs.lemmas.Bool.{and_parts}
 use Rattle.x86_fields.specs.declared.prefixes.Prefixes.{Prefixes}
@@ -17,17 +17,15 @@ use Rattle.x86_operands.specs.Plans.{RowRecord, is_refusal, list_of}
 use Rattle.x86_operands.specs.Forms.{form_plan, form_record}
 use Rattle.x86_decode.specs.Addresses.{is_modrm_encoding}
 use Rattle.x86_layout.specs.Tightening.Tighten.{bits_in}
-use Rattle.x86_operands.specs.declared.encodings.Last.{Last}
-use Rattle.x86_operands.specs.declared.letters.Letter.{Letter}
-use Rattle.x86_operands.specs.declared.letters.Letters.{Letters}
+use Rattle.x86_operands.specs.declared.plans.OperandEncoding.{OperandEncoding}
+use Rattle.x86_operands.specs.declared.plans.OperandEncodings.{OperandEncodings}
 use Rattle.x86_operands.specs.declared.rows.FormRow.{FormRow}
-use Rattle.x86_operands.specs.declared.letters.Letter.TheVariants as letter
-use Rattle.x86_operands.specs.declared.letters.Letters.TheVariants as letters
-use Rattle.x86_operands.specs.Columns.{choose, letter_encoding, operand_encodings, plan_of_row}
-use Rattle.x86_operands.specs.Encodings.{last_encoding}
+use Rattle.x86_forms.specs.Words.{carried}
+use Rattle.x86_operands.specs.Columns.{choose, plan_of_row}
+use Rattle.x86_operands.specs.Encodings.{all_settled, settled}
 use Rattle.x86_operands.specs.Rows.{form_rows}
 use Rattle.x86_operands.proofs.PlainLemmas as form_facts
-use Rattle.x86_operands.proofs.ColumnLemmas.{SamePrefixes, no_rm_names, in_memory, is_memory_letter, letters_list, rm_free_letter, first_in_memory, rows_alike}
+use Rattle.x86_operands.proofs.ColumnLemmas.{SamePrefixes, no_rm_names, in_memory, rm_free_encoding, first_in_memory, rows_alike}
 use Rattle.x86_groups.specs.Groups.{is_f3_alone, group_fault, group_plan, group_record, record_of}
 use Rattle.x86_groups.specs.Rows.{group_rows}
 use Rattle.x86_groups.proofs.GroupLemmas as group_facts
@@ -86,34 +84,45 @@ module _ (strict : Bool) (row : TableRow) (p : Prefixes) (x b : Bool) (m n : ℕ
 abbrev pub writes : Plan → Bool
 writes plan = is_refusal plan.verdict || list_any is_modrm_encoding (list_of plan.encodings)
 
-last_is_none : (l : Last) (p : Prefixes) → is_modrm_encoding (last_encoding l p) ≡ false
-last_is_none l p = grind arith
+settled_is : (s : OperandEncoding) (n : ℕ) (p : Prefixes) → is_modrm_encoding (settled s n p) ≡ is_modrm_encoding s
+settled_is s n p = grind arith
+
+settled_free : (s : OperandEncoding) (n : ℕ) (p : Prefixes) → rm_free_encoding (settled s n p) ≡ rm_free_encoding s
+settled_free s n p = grind arith
+
+any_settled : (operands : OperandEncodings) (n : ℕ) (p : Prefixes) → list_any is_modrm_encoding (list_of (all_settled operands n p)) ≡ list_any is_modrm_encoding (list_of operands)
+any_settled operands n p = grind (arith, settled_is)
+
+all_free : (operands : OperandEncodings) (n : ℕ) (p : Prefixes) → list_all rm_free_encoding (list_of (all_settled operands n p)) ≡ list_all rm_free_encoding (list_of operands)
+all_free operands n p = grind (arith, settled_free)
 
 module _ (own : TableRow) (p : Prefixes) (m : ℕ) where
-  letter_is : (l : Letter) → is_modrm_encoding (letter_encoding l own p m) ≡ is_memory_letter l
-  letter_is (letter.Last l) = last_is_none l p
-  letter_is letter.Jv = grind arith
-  letter_is letter.Offset = grind arith
-  letter_is l = refl
-
-  letters_are : (operands : Letters) → list_any is_modrm_encoding (list_of (operand_encodings operands own p m)) ≡ list_any is_memory_letter (letters_list operands)
-  letters_are letters.Zero = refl
-  letters_are (letters.One a) = rw (letter_is a) refl
-  letters_are (letters.Two a b) = rw (letter_is a, letter_is b) refl
-  letters_are (letters.Three a b c) = rw (letter_is a, letter_is b, letter_is c) refl
-  letters_are (letters.Four a b c d) = rw (letter_is a, letter_is b, letter_is c, letter_is d) refl
-
   chosen_writes : (chosen : FormRow) → in_memory chosen ≡ true → writes (plan_of_row chosen own p m) ≡ true
   chosen_writes chosen h =
       let x = and_parts (no_rm_names chosen.names) _ h in
-      let y = and_parts (list_all rm_free_letter (letters_list chosen.operands)) _ x.1 in
-      rw (letters_are chosen.operands) y.1
+      let y = and_parts (list_all rm_free_encoding (list_of chosen.operands)) _ x.1 in
+      rw (any_settled chosen.operands (carried own.form) p) y.1
+
+  chosen_free : (chosen : FormRow) → in_memory chosen ≡ true → list_all rm_free_encoding (list_of (plan_of_row chosen own p m).encodings) ≡ true
+  chosen_free chosen h =
+      let x = and_parts (no_rm_names chosen.names) _ h in
+      let y = and_parts (list_all rm_free_encoding (list_of chosen.operands)) _ x.1 in
+      all_free chosen.operands (carried own.form) p ∙ y.0
 
 module _ (strict : Bool) (row : TableRow) (p : Prefixes) (m : ℕ) (mm : is_memory m ≡ true) where
   by_kind : (group : Bool) → (By strict row group p).modrm ≡ EitherForm → writes ((By strict row group p).plan m) ≡ true
   unfolding group_record group_plan form_record form_plan
   by_kind true usage = chosen_writes row p m (choose (group_rows row.form) row strict p m) (first_in_memory (group_rows row.form) row strict p m (group_facts.rows_keep_reg row.form) mm)
   by_kind false usage = chosen_writes row p m (choose (form_rows row.form) row false p m) (first_in_memory (form_rows row.form) row false p m (form_facts.rows_keep_reg row.form usage) mm)
+
+  free_by_kind : (group : Bool) → (By strict row group p).modrm ≡ EitherForm → list_all rm_free_encoding (list_of ((By strict row group p).plan m).encodings) ≡ true
+  unfolding group_record group_plan form_record form_plan
+  free_by_kind true usage = chosen_free row p m (choose (group_rows row.form) row strict p m) (first_in_memory (group_rows row.form) row strict p m (group_facts.rows_keep_reg row.form) mm)
+  free_by_kind false usage = chosen_free row p m (choose (form_rows row.form) row false p m) (first_in_memory (form_rows row.form) row false p m (form_facts.rows_keep_reg row.form usage) mm)
+
+  -- the operands go neither by rm nor by X or B
+  pub row_is_free : (record_of strict row p).modrm ≡ EitherForm → list_all rm_free_encoding (list_of ((record_of strict row p).plan m).encodings) ≡ true
+  row_is_free usage = free_by_kind (is_group row.form) usage
 
   pub row_writes : (record_of strict row p).modrm ≡ EitherForm → is_refusal ((record_of strict row p).plan m).verdict ≡ false → list_any is_modrm_encoding (list_of ((record_of strict row p).plan m).encodings) ≡ true
   row_writes usage accepted = cc (by_kind (is_group row.form) usage, accepted)

@@ -1,12 +1,15 @@
 -- A relative is the same instruction but for its memory operand of ModRM, which has the same address.
-use Rattle.std.proofs.Common.{◌≡◌, ◌↔◌, ℕ, zero, suc, ◌≤◌, ◌<◌, ◌^◌, nat_lt, Bool, false, if◌then◌else◌, Option, Some, None, List, [], ◌∷◌, length, map, slice_index_or, refl, sym, ap, ◌∙◌, arith, All, FitsSigned, w32, pow_mono}
+use Rattle.std.proofs.Common.{◌≡◌, ◌↔◌, ℕ, zero, suc, ◌≤◌, ◌<◌, ◌^◌, nat_lt, Bool, true, false, if◌then◌else◌, Option, Some, None, List, [], ◌∷◌, length, map, slice_index_or, refl, sym, ap, ◌∙◌, arith, All, FitsSigned, w32, pow_mono}
+use Rattle.std.specs.List.{list_all}
+use Rattle.std.proofs.lemmas.Bool.{and_parts}
 use Rattle.x86_regs.specs.declared.RegisterClass.{RegisterClass}
 use Rattle.x86_fields.specs.declared.prefixes.Prefixes.{Prefixes}
 use Rattle.x86_fields.specs.declared.raw.Raw.{Raw}
 use Rattle.x86_fields.specs.ModRM.{reg_field, scale_field}
 use Rattle.x86_fields.specs.Raw.{has_r}
 use Rattle.x86_fields.specs.Address.{scale_by}
-use Rattle.x86_fields.specs.Sizes.{register_of}
+use Rattle.x86_fields.specs.Sizes.{class_of, register_of}
+use Rattle.x86_fields.specs.declared.sizes.Width.{Width}
 use Rattle.x86_fields.specs.Linear.{Linear, raw_form, value_at, IsSameAddress, IsReduced, IsRegFile, AgreeEverywhere}
 use Rattle.x86_forms.specs.Words.{rows_of, packed}
 use Rattle.x86_operands.specs.declared.operands.Slot.{Slot}
@@ -19,7 +22,8 @@ use Rattle.x86_operands.specs.declared.plans.Plan.{Plan}
 use Rattle.x86_operands.specs.declared.reader.Reading.{Reading}
 use Rattle.x86_operands.specs.Operands.{shape, operand_address}
 use Rattle.x86_operands.specs.Plans.{list_of, reg_number}
-use Rattle.x86_operands.specs.PlanSteps.{pair_at, four_of, changed, reading_from}
+use Rattle.x86_operands.proofs.ColumnLemmas.{rm_free_encoding}
+use Rattle.x86_operands.specs.PlanSteps.{pair_at, four_of, changed, pointer_class, reading_from}
 use Rattle.x86_operands.specs.Pieces.{operand_from, SpellsOperands, SpellsTail}
 use Rattle.x86_operands.specs.Asks.{first_or}
 use Rattle.x86_decode.specs.declared.instructions.Instruction.{Instruction}
@@ -32,7 +36,7 @@ use Rattle.x86_layout.specs.Tightening.Shortest.{IsOfBytes}
 use Rattle.x86_layout.specs.Tightening.Tighten.{IsRelative}
 use Rattle.x86_layout.specs.Tightening.Same.{cleared, placed_at, address_at, IsSameOrShape, unchanged, shapes, IsSameButInMemory}
 use Rattle.x86_layout.proofs.TightenLemmas.Rex.{seen_with, column_stays}
-use Rattle.x86_layout.proofs.TightenLemmas.PlanAlike.{same_record}
+use Rattle.x86_layout.proofs.TightenLemmas.PlanAlike.{row_is_free, same_record}
 use Rattle.x86_layout.proofs.TightenLemmas.Relative.{Reads, Row, Seen, Byte, spells, fields, byte, raw_of_bytes}
 use Rattle.x86_layout.proofs.PartLemmas.Part.{halves}
 
@@ -67,15 +71,22 @@ module _ (from to : Raw) where
     same_number : reg_number n q ≡ reg_number m p
     same_number = cc (same_r p q alike, register)
 
-    sign_alike : (s : OperandEncoding) (bytes : List ℕ) → IsSameOrShape from to (operand_from s p m (Some from) bytes) (operand_from s q n (Some to) bytes)
-    sign_alike s bytes = grind (arith, unchanged, shapes, same_register p q alike, same_number)
+    same_width : (w : Width) → class_of w q ≡ class_of w p
+    same_width w = let e = ap (class_of w) alike in grind arith
 
-    pairs_alike : (ss : List OperandEncoding) (bytes : List ℕ) (operand_pairs others : List (Slot × Operand)) → SpellsOperands ss p m (Some from) bytes operand_pairs → SpellsOperands ss q n (Some to) bytes others → AlikePairs operand_pairs others
-    pairs_alike [] bytes operand_pairs others h g = rw (h.1, g.1) (record { count = refl; each = λ k. unchanged refl })
-    pairs_alike (s ∷ rest) bytes operand_pairs others h g =
+    same_pointer : pointer_class q ≡ pointer_class p
+    same_pointer = let e = ap pointer_class alike in grind arith
+
+    sign_alike : (s : OperandEncoding) (bytes : List ℕ) → rm_free_encoding s ≡ true → IsSameOrShape from to (operand_from s p m (Some from) bytes) (operand_from s q n (Some to) bytes)
+    sign_alike s bytes free = grind (arith, unchanged, shapes, same_register p q alike, same_number, same_width, same_pointer)
+
+    pairs_alike : (ss : List OperandEncoding) (bytes : List ℕ) (operand_pairs others : List (Slot × Operand)) → list_all rm_free_encoding ss ≡ true → SpellsOperands ss p m (Some from) bytes operand_pairs → SpellsOperands ss q n (Some to) bytes others → AlikePairs operand_pairs others
+    pairs_alike [] bytes operand_pairs others free h g = rw (h.1, g.1) (record { count = refl; each = λ k. unchanged refl })
+    pairs_alike (s ∷ rest) bytes operand_pairs others free h g =
+        let parts = and_parts (rm_free_encoding s) (list_all rm_free_encoding rest) free in
         let same = halves h.immediate h.tail g.immediate g.tail (sym h.spelled ∙ g.spelled) (h.immediate_length ∙ sym g.immediate_length) in
-        let first : IsSameOrShape from to (operand_from s p m (Some from) h.immediate) (operand_from s q n (Some to) g.immediate) = rw (same.0) (sign_alike s g.immediate) in
-        let following = pairs_alike rest g.tail h.others g.others (rw (same.1) at h.tail_spelled) g.tail_spelled in
+        let first : IsSameOrShape from to (operand_from s p m (Some from) h.immediate) (operand_from s q n (Some to) g.immediate) = rw (same.0) (sign_alike s g.immediate parts.0) in
+        let following = pairs_alike rest g.tail h.others g.others parts.1 (rw (same.1) at h.tail_spelled) g.tail_spelled in
         rw (h.yields, g.yields) (one_more first following)
 
   -- ---- the instruction
@@ -99,13 +110,13 @@ module _ (from to : Raw) where
     }
 
     module _ (m n : ℕ) (register : reg_field n ≡ reg_field m) where
-      tails : {plan other : Plan} {tail end : List ℕ} {a b : Reading} (h : SpellsTail plan p m tail a) (g : SpellsTail other q n end b) (k l : ℕ) → other ≡ plan → h.pieces.memory ≡ Some from → g.pieces.memory ≡ Some to → g.pieces.immediates ≡ h.pieces.immediates → g.pieces.suffix ≡ h.pieces.suffix → IsSameButInMemory from to (instruction_of a k) (instruction_of b l)
-      tails {plan = plan} {b = b} h g k l planned old new immediates suffix =
+      tails : {plan other : Plan} {tail end : List ℕ} {a b : Reading} (h : SpellsTail plan p m tail a) (g : SpellsTail other q n end b) (k l : ℕ) → other ≡ plan → list_all rm_free_encoding (list_of plan.encodings) ≡ true → h.pieces.memory ≡ Some from → g.pieces.memory ≡ Some to → g.pieces.immediates ≡ h.pieces.immediates → g.pieces.suffix ≡ h.pieces.suffix → IsSameButInMemory from to (instruction_of a k) (instruction_of b l)
+      tails {plan = plan} {b = b} h g k l planned free old new immediates suffix =
           let x = h.pieces in
           let y = g.pieces in
           let spelled = rw old at x.immediates_spelled in
           let third = rw (planned, new, immediates) at y.immediates_spelled in
-          let pairs = pairs_alike p q m n alike register (list_of plan.encodings) x.immediates x.operand_pairs y.operand_pairs spelled third in
+          let pairs = pairs_alike p q m n alike register (list_of plan.encodings) x.immediates x.operand_pairs y.operand_pairs free spelled third in
           let yields : b ≡ reading_from plan q h.opcode (four_of y.operand_pairs) = cc (g.yields, planned, g.named, suffix, h.named) in
           rw (h.yields, yields) (built plan h.opcode k l x.operand_pairs y.operand_pairs pairs)
 
@@ -133,7 +144,7 @@ module _ {strict : Bool} {s : List ℕ} {a : Reading} {v : Encoding strict s a} 
       cc (new, row_is, seen_is, old)
 
   same_instruction : (k l : ℕ) → IsSameButInMemory rel.address.from rel.address.to (instruction_of a k) (instruction_of b l)
-  same_instruction k l = tails rel.address.from rel.address.to rel.address.same (Seen v) (Seen w) seen_is (Byte v) (Byte w) register_is v.row_spelled.tail_spelled w.row_spelled.tail_spelled k l plan_is rel.address.old rel.address.new rel.parts.immediate rel.parts.suffix
+  same_instruction k l = tails rel.address.from rel.address.to rel.address.same (Seen v) (Seen w) seen_is (Byte v) (Byte w) register_is v.row_spelled.tail_spelled w.row_spelled.tail_spelled k l plan_is (row_is_free strict v.row (Seen v) (Byte v) (spells v rel.address.old).0 (fields v rel.address.old)) rel.address.old rel.address.new rel.parts.immediate rel.parts.suffix
 
 -- said of sentences
 pub relative_is_same : (strict : Bool) (s : List ℕ) (a : Instruction) (is : IsSentence (rows_of packed) strict s a) (t : List ℕ) (b : Instruction) (other : IsSentence (rows_of packed) strict t b) (rel : IsRelative strict s is.reading is.whole t other.reading other.whole) → IsSameButInMemory rel.address.from rel.address.to a b
