@@ -135,9 +135,12 @@ def run_examples(page, base=BASE, in_pieces=False):
     wrong, how = 0, page + (f" at {base:#x}" if base != BASE else "") + (" with a text in pieces" if in_pieces else "")
     with tempfile.TemporaryDirectory() as folder:
         program_in(folder, in_pieces)
+        lost = set()  # the files that skipped examples would have written
         for command, wanted in examples(page):
-            if lacking(command):
-                print(f"pages: skipped, {lacking(command)[0]} is missing: {command}", file=sys.stderr)
+            missing = lacking(command) + [name for name in sorted(lost) if re.search(rf"\b{name}\b", command)]
+            if missing:
+                print(f"pages: skipped, {missing[0]} is missing: {command}", file=sys.stderr)
+                lost.update(re.findall(r"(?:> |\btee )(\w+)", command))
                 continue
             if base != BASE:
                 command, wanted = moved(command, base), moved(wanted, base)
