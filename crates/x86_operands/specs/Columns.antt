@@ -1,6 +1,7 @@
 -- What the columns of a row mean. A row says where it is (the form of ModRM, reg, rm, the prefixes) and what it has
--- there: a name and operands, or a refusal. The first row that holds counts. `own` is the row in the opcode map. Source:
--- Intel SDM volume 2, appendix A.2 (the letters of operands) and A.4 (the columns of its tables of opcode extensions).
+-- there: a name and operands, or a refusal. The first row that holds counts. `own` is the row in the opcode map. What the
+-- letters of operands mean is in PlanSteps. Source: Intel SDM volume 2, appendix A.4 (the columns of its tables of opcode
+-- extensions).
 use Rattle.std.specs.Prelude.{ℕ, nat_le, ◌==◌, Bool, true, not, ◌&&◌, ◌||◌, if◌then◌else◌, List, [], ◌∷◌, slice_index_or, unwrap_or}
 use Rattle.x86_operands.specs.Vocabulary.{Prefixes, TableRow, BadOpcode, AtModRM, Plan, reg_field, rm_field, is_memory, operand_size, address_size, has_r, has_w, has_b, repnz, rep}
 use Rattle.x86_operands.specs.RowVocabulary.{ByReg, ByRm, Bytes, FormRow, Memory, Name, Names, Of, Own, Place, Reg, Register, Rm, RowSize, When}

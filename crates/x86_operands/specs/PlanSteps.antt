@@ -35,7 +35,7 @@ suffixes =
 unfoldable pub suffix_opcode : ℕ → Option ℕ
 suffix_opcode byte = lookup (λ b. b == byte) suffixes
 
--- ---- operands
+-- ---- operands. Source: Intel SDM volume 2, appendix A.2 (the letters of operands)
 
 abbrev pub register_slot : RegisterSlot → Slot
 register_slot reg_slot.Reg = slots.Reg

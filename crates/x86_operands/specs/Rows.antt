@@ -3,7 +3,7 @@
 -- Z the register of the opcode byte, A the accumulator. The columns: where (bare without ModRM, mem the memory forms of
 -- ModRM, reg the register forms, both; at a reg), the prefixes, the name, the operands, and the memory size (of the memory
 -- form, and of the register form). A form with one row whose name is that of the opcode map has a word for where.
--- specs/Words.antt has the words, and specs/Columns.antt what they mean.
+-- specs/Words.antt has the words, specs/Columns.antt what they mean, and specs/PlanSteps.antt what the letters mean.
 use Rattle.std.specs.Prelude.{List, [], ◌∷◌}
 use Rattle.x86_opcodes.specs.Names.{CBW, CDQ, CDQE, CQO, CWD, CWDE, ENQCMD, ENQCMDS, IRET, IRETD, IRETQ, JECXZ, LFS, LGS, LSS, MOVHPD, MOVLPD, MOVQ, NOP, PEXTRD, PEXTRQ, PINSRD, PINSRQ}
 use Rattle.x86_fields.specs.declared.sizes.Width.TheVariants.{B, W, D, Q, X, V, Vq, Vd, Dq}

@@ -43,13 +43,7 @@ impl Operands {
             (Slot.Deref, Operand.MemDeref (reg_spec num (pointer_class prefixes.now))) self.old }
     {
         let class = if prefixes.address_size() { D } else { Q };
-        self.put_at(
-            at,
-            Slot::Deref,
-            Operand::MemDeref {
-                base: RegSpec::of(num, class),
-            },
-        );
+        self.put_memory(at, PointerSlot::Deref, RegSpec::of(num, class));
     }
 
     /// What an operand yields that no ModRM names, at an index.
