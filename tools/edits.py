@@ -2,12 +2,13 @@
 """edits.py: what refuses each must-fail edit, which its line `# expect: PLACE: GOAL` says.
 
     python3 tools/edits.py LOG..            writes these lines by logs of `rt must-fail` or `rt ci`; an edit that they don't have keeps its line
-    python3 tools/edits.py --check          names each edit without such a line, and fails where there is one: the gate does this
-    python3 tools/edits.py --check LOG..    the same; with logs that were saved, it also names each edit that they say was refused elsewhere, and
-                                            doesn't fail for that: which of two open goals comes first isn't fixed
+    python3 tools/edits.py --check LOG..    names each edit without such a line, and each that the logs say was refused at another PLACE, and fails where
+                                            there is one. The gate does this with the log of its own run, for the edits that were tried in it. Where the
+                                            GOAL alone is another it says so, and doesn't fail: which of two open goals comes first isn't fixed
 
 PLACE is a function, or a file of proofs/. GOAL is the first goal or lemma that the prover names: `returns-clause-short` is the clause `short` where
-the function returns, and what is before `clause` is the path through the body.
+the function returns, and what is before `clause` is the path through the body. Where any of several may come first, the line has all of them, with
+` | ` between: `# expect: PLACE: GOAL | PLACE: GOAL`.
 """
 
 import re
@@ -16,7 +17,7 @@ from pathlib import Path
 
 ROOT = Path(__file__).resolve().parent.parent
 MARK = "# expect: "
-TRIED = re.compile(r"must-fail (\w+)/(\w+)\.edit: refused, as it must be(?: \([^)]*\))?: (?:note: )?(?:\./)?([\w./+]+):(\d+):\d+: (.*)")
+TRIED = re.compile(r"must-fail (\w+)/([\w.-]+)\.edit: refused, as it must be(?: \([^)]*\))?: (?:note: )?(?:\./)?([\w./+]+):(\d+):\d+: (.*)")
 
 
 def edits():
@@ -50,32 +51,43 @@ def refusals(logs):
 
 
 def write(path, said):
-    lines = [line for line in path.read_text().split("\n") if not line.startswith(MARK)]
-    path.write_text("\n".join([MARK + said, *lines]))
+    if said not in (expected(path) or "").split(" | "):
+        lines = [line for line in path.read_text().split("\n") if not line.startswith(MARK)]
+        path.write_text("\n".join([MARK + said, *lines]))
+
+
+def fault(path, refused):
+    """What is wrong with the line of an edit that was refused so, or wasn't tried, and whether that is more than a note."""
+    line = expected(path)
+    if line is None:
+        return f"has no line `{MARK.strip()}`: python3 tools/edits.py LOG writes it", True
+    said = line.split(" | ")
+    if refused is None or refused in said:
+        return None
+    is_elsewhere = refused.split(": ")[0] not in [each.split(": ")[0] for each in said]
+    return f"expects {line}, and was refused at {refused}", is_elsewhere
 
 
 def look(logs):
-    """Names what differs, and answers how many edits have no line."""
-    found, lacking = refusals(logs), 0
+    """Names what differs, and answers how many edits have no line or were refused elsewhere."""
+    found, wrong = refusals(logs), 0
     for key, path in edits().items():
-        said = expected(path)
-        if said is None:
-            print(f"edits.py: {path.relative_to(ROOT)} has no line `{MARK.strip()}`: python3 tools/edits.py LOG writes it", file=sys.stderr)
-            lacking += 1
-        elif found.get(key, said) != said:
-            print(f"edits.py: note: {path.relative_to(ROOT)} expects {said}, and was refused at {found[key]}", file=sys.stderr)
-    return lacking
+        if has_fault := fault(path, found.get(key)):
+            what, counts = has_fault
+            print(f"edits.py: {'' if counts else 'note: '}{path.relative_to(ROOT)} {what}", file=sys.stderr)
+            wrong += counts
+    print(f"edits.py: {len(found)} of {len(edits())} edits were tried in the log", file=sys.stderr)
+    return wrong
 
 
 def main(words):
-    if words[:1] != ["--check"]:
-        if not words:
-            sys.exit(__doc__)
-        for key, said in refusals(words).items():
-            if key in edits():
-                write(edits()[key], said)
-        return
-    sys.exit(1 if look(words[1:]) else 0)
+    if not words:
+        sys.exit(__doc__)
+    if words[0] == "--check":
+        sys.exit(1 if look(words[1:]) else 0)
+    for key, said in refusals(words).items():
+        if key in edits():
+            write(edits()[key], said)
 
 
 if __name__ == "__main__":

@@ -59,9 +59,10 @@ CODE = [f"crates/x86_vectors/src/{name}.rt" for name in ("guide_tests", "rebuild
 CODE += [f"crates/{name}/{file}" for name in ("guide_first", "guide_listing") for file in ("src", "stdout")]
 TESTS = ["crates/x86_vectors/src", "crates/x86_runs/src"]
 QUOTING = ["docs/ROWS.md", "docs/ENCODING.md", "docs/ARCHITECTURE.md", "CONTRIBUTING.md"]
+TOOLS_OF_COSTS = "objcopy xxd readelf perl"
 LINKING = ["docs/THEOREM.md", "docs/DEFINITIONS.md"]
 NAMING = [f"docs/{page.name}" for page in sorted((TOP / "docs").glob("*.md")) if page.name != "CHANGES.md"]
-TOOLS = ["objcopy", "objdump", "nm", "readelf", "xxd", "hexdump", "od", "paste", "xargs", "perl"]
+PACKAGES = dict(line.split() for line in (TOP / "tools" / "packages").read_text().splitlines())
 
 
 def blocks(page, section=""):
@@ -91,8 +92,10 @@ def examples(page, section=""):
 
 
 def lacking(command):
+    """What a command needs and isn't there."""
     lacks_show = "./show" in command and not os.access(SHOW, os.X_OK)
-    return [tool for tool in TOOLS if re.search(rf"\b{tool}\b", command) and shutil.which(tool) is None] + ["x86_show"] * lacks_show
+    packages = [f"the package {of}" for tool, of in PACKAGES.items() if re.search(rf"\b{tool}\b", command) and shutil.which(tool) is None]
+    return packages + ["x86_show"] * lacks_show
 
 
 def run(command, folder):
@@ -195,8 +198,8 @@ def costs_of_recipes(page, code):
 
 def measure_recipes(page):
     """Compares what the recipes cost over some code and over twice as much, and answers how many cost more than in proportion."""
-    if lacking("objcopy xxd readelf perl") or not os.access("/bin/bash", os.R_OK):
-        print("pages: skipped, objcopy, xxd, readelf, perl or /bin/bash is missing: what the recipes cost", file=sys.stderr)
+    if lacking(TOOLS_OF_COSTS) or not os.access("/bin/bash", os.R_OK):
+        print(f"pages: skipped, {', '.join(lacking(TOOLS_OF_COSTS)) or '/bin/bash'} is missing: what the recipes cost", file=sys.stderr)
         return 0
     with tempfile.TemporaryDirectory() as folder:
         subprocess.run(["objcopy", "-O", "binary", "-j", ".text", "/bin/bash", "code"], cwd=folder, check=True)
@@ -336,7 +339,7 @@ def main():
         wrong += run_examples("docs/USAGE.md", LIBRARY, in_pieces=True) + run_examples("docs/USAGE.md", KERNEL)
         wrong += measure_recipes("docs/USAGE.md")
     else:
-        print(f"pages: the examples are skipped, {PROGRAM} is missing", file=sys.stderr)
+        print(f"pages: skipped, {PROGRAM} is missing: the examples", file=sys.stderr)
     if wrong == 0:
         print("pages: passed")
     return 1 if wrong else 0

@@ -1,5 +1,7 @@
-# What the scripts `x86` and `show`, the gate and the tools share: where a program is, of which sources it was built, which crates it is made of,
-# and how it starts. They read this file by `. tools/program.sh`, where `top` is the folder of the repository.
+# What the scripts `x86` and `show`, the gate and the tools share: where a program is, of which sources and by which kit it was built, which crates
+# it is made of, and how it starts. They read this file by `. tools/program.sh`, where `top` is the folder of the repository.
+
+VERSION=1.0-dev
 
 # The crate of the program, and the folder of the sources that say which words are its commands.
 PROGRAM_CRATE=x86
@@ -12,45 +14,138 @@ TRY_MAX=67108864
 use_program() {
     script=$1 PROGRAM_CRATE=$2 sample=$3
     out=$top/crates/$PROGRAM_CRATE/out
-    program=$out/$PROGRAM_CRATE log=$out/build.log
+    program=$out/$PROGRAM_CRATE log=$out/build.log receipt=$out/receipt
 }
 use_program x86 $PROGRAM_CRATE list
 
 # crates NAME..: the crates of this repository among these and what they use, lowest first.
 crates() {
-    for name in "$@"; do echo "$(sed -n "s/^$name://p" "$top/crates.txt") $name"; done | tr ' ' '\n' | while read -r name; do
-        [ -z "$name" ] || [ ! -d "$top/crates/$name" ] || echo "$name"
-    done | awk '!seen[$0]++'
+    awk -v names="$*" '
+        function add(name, parts, count, at) {
+            if (name in added || !(name in below)) return
+            added[name]
+            count = split(below[name], parts)
+            for (at = 1; at <= count; at++) add(parts[at])
+            print name
+        }
+        /^[a-z]/ { name = $1; sub(/:$/, "", name); sub(/^[^:]*:/, ""); below[name] = $0 }
+        END { count = split(names, parts); for (at = 1; at <= count; at++) add(parts[at]) }' "$top/crates.txt"
 }
 
-# The files of these crates, seen from the top, without what was built and without must-fail edits.
-source_files() {
-    for name in $(crates "$@"); do
-        (cd "$top" && find "crates/$name" \( -name out -o -name must-fail \) -prune -o -type f -print)
-    done
-}
-
-# copy_crates FOLDER NAME..: copies the sources of these crates, as a repository of their own.
+# copy_crates FOLDER NAME..: copies the sources of these crates, without what was built and without must-fail edits, as a repository of their own.
 copy_crates() (
     folder=$1
     shift
     mkdir -p "$folder/.git" && cp "$top/HANDLES" "$folder"
     for name in $(crates "$@"); do grep "^$name:" "$top/crates.txt"; done >"$folder/crates.txt"
-    source_files "$@" | tar -cf - -C "$top" -T - | tar -xf - -C "$folder"
+    cd "$top" && find $(crates "$@" | sed 's,^,crates/,') \( -name out -o -name must-fail \) -prune -o -type f -print | tar -cf - -T - | tar -xf - -C "$folder"
 )
 
-# A sum over names and contents of all sources of the program, without the crates' README.md.
-sources() {
-    { echo crates.txt && source_files $PROGRAM_CRATE | grep -v '/README\.md$'; } | LC_ALL=C sort | tr '\n' '\0' | (cd "$top" && xargs -0 cksum) | cksum
+# source_paths: the paths at and below which the sources of the program are.
+source_paths() {
+    echo crates.txt HANDLES $(crates $PROGRAM_CRATE | sed 's,^,crates/,')
 }
 
+# find_files PATHS ACTION..: does this with the files at and below these paths, but for what was built, must-fail edits and the crates' pages.
+find_files() (
+    below=$1
+    shift
+    cd "$top" && find $below \( -name out -o -name must-fail -o -name README.md \) -prune -o -type f "$@"
+)
+
+# sums: the SHA-256 of each source of the program, as sha256sum prints it.
+sums() {
+    find_files "$(source_paths)" -print0 | LC_ALL=C sort -z | (cd "$top" && xargs -0 sha256sum)
+}
+
+# sum: the SHA-256 of standard input.
+sum() {
+    sha256sum | cut -d ' ' -f 1
+}
+
+# kit: the line of the kit whose `rt` is on PATH, or nothing.
+kit() {
+    rt=$(command -v rt) && rt=$(readlink -f "$rt") || return 0
+    cat "${rt%/*/*}/KIT-ID" 2>/dev/null || rt version
+}
+
+# commit: what git says of the clone, or nothing.
+commit() {
+    [ -e "$top/.git" ] && head=$(git -C "$top" rev-parse --short=12 HEAD 2>/dev/null) || return 0
+    [ -z "$(git -C "$top" status --porcelain 2>/dev/null)" ] || head="$head, with changes"
+    echo "$head"
+}
+
+# verdict LOG: the line of the check of the program, and the C functions whose contracts it takes as they are written, of the log of `rt`.
+verdict() {
+    awk -v head="== $PROGRAM_CRATE" -v kept="rt: $PROGRAM_CRATE is kept: " '
+        /^== / { inside = $0 == head; had = 1 }
+        (inside || !had) && /^axioms / { axioms = axioms $0 "\n" }
+        (inside || !had) && /^logic=/ { check = $0 }
+        index($0, kept) == 1 { check = $0 }
+        END { print "check " (check == "" ? "of a run whose log has no line of it" : check); printf "%s", axioms }' "$1"
+}
+
+# write_receipt SUMS LOG: writes beside the program of what and by what it was built: a line each for the SHA-256 of the file `sources`, which has
+# these sums, and of the program, for the kit, and for what the log of the run says.
+write_receipt() {
+    printf '%s\n' "$1" >"$out/sources" && {
+        echo "program $PROGRAM_CRATE $VERSION"
+        echo "commit $(commit)"
+        echo "kit $(kit)"
+        echo "sources $(sum <"$out/sources")"
+        echo "binary $(sum <"$program")"
+        verdict "$2"
+    } >"$receipt.$$" && mv "$receipt.$$" "$receipt"
+}
+
+# of_receipt KEY: what the receipt has.
+of_receipt() {
+    sed -n "s/^$1 //p" "$receipt"
+}
+
+# listing PATHS: these paths, and of each file what another content changes: its size, its number, and the times of the last change of its content and
+# of its entry, which no program can set.
+listing() {
+    echo "$1"
+    find_files "$1" -printf '%p %s %i %T@ %C@\n' 2>/dev/null
+}
+
+# is_as_seen: whether no file was changed since its sum was last compared.
+is_as_seen() {
+    [ -f "$out/seen" ] && read -r paths <"$out/seen" && listing "$paths" | cmp -s - "$out/seen"
+}
+
+# is_as_receipt: whether the sources and the program have the sums of the receipt. Where not, `why` says which is another. Where they have, the next
+# start needs no sums, unless a file is so new that another change might bear the same time.
+is_as_receipt() {
+    paths="$(source_paths) ${program#"$top/"}"
+    seen=$(listing "$paths")
+    now=$(sums)
+    if [ "$(printf '%s\n' "$now" | sum)" != "$(of_receipt sources)" ]; then
+        other=$(printf '%s\n' "$now" | cat - "$out/sources" 2>/dev/null | LC_ALL=C sort | uniq -u | sed 's/^[^ ]* *//' | uniq)
+        why="the sources aren't those that it was built of: $(echo $other | cut -c 1-200)"
+    elif [ "$(sum <"$program")" != "$(of_receipt binary)" ]; then
+        why="the file $program isn't the one that was built"
+    elif [ -z "$(find_files "$paths" -newerct '2 seconds ago' -print -quit 2>&1)" ]; then
+        { printf '%s\n' "$seen" >"$out/seen.$$" && mv "$out/seen.$$" "$out/seen"; } 2>/dev/null
+    fi
+    [ -z "$why" ]
+}
+
+# is_built: whether the program is there, and is of the sources and by the kit as they are. Where not, `why` says why.
 is_built() {
-    [ -x "$program" ] && [ -f "$out/built" ] && [ "$(cat "$out/built")" = "$(sources)" ]
-}
-
-# note_built SUM: notes of which sources the program was built.
-note_built() {
-    echo "$1" >"$out/built"
+    why= now_kit=$(kit)
+    if [ ! -f "$receipt" ]; then
+        why="it isn't built yet"
+    elif [ ! -x "$program" ]; then
+        why="the file $program isn't there"
+    elif [ -n "$now_kit" ] && [ "$now_kit" != "$(of_receipt kit)" ]; then
+        why="the kit is $now_kit, and it was built by $(of_receipt kit)"
+    else
+        is_as_seen || is_as_receipt
+    fi
+    [ -z "$why" ]
 }
 
 # usage_line FILE: the line that a program prints where its words request nothing. The file has it.
@@ -66,6 +161,19 @@ say() {
 fail() {
     say "$*"
     exit 100
+}
+
+# Says what would answer, and whether it is what was proved.
+print_version() {
+    echo "$script $VERSION"
+    commit | sed 's/^/commit: /'
+    kit | sed 's/^/kit: /'
+    if is_built; then
+        echo "proved: $(of_receipt check)"
+        echo "built: of sources $(of_receipt sources), as the program $(of_receipt binary) (SHA-256)"
+    else
+        echo "not proved: $why"
+    fi
 }
 
 # Says that text is awaited, where nothing else would show it.
@@ -125,19 +233,20 @@ try_unproved() {
 
 # Builds the program of the sources as they are. An older one goes, so that none is taken for it.
 build() {
-    sum=$(sources)
-    rm -f "$out/built" "$program"
+    [ ! -f "$receipt" ] || say "proved and built again: $why"
+    before=$(sums)
+    rm -f "$receipt" "$out/seen" "$program"
     : >"$log"
     say "\`./$script try $*\` answers without a proof, within a minute. Proving and building the program takes 10 to 25 minutes from nothing, 4 GB of memory and 3 GB of disk (see $log)"
-    if [ -d "$out/incremental" ]; then prove_changes; else prove; fi && [ -x "$program" ]
+    if [ -d "$out/incremental" ]; then prove_changes; else prove; fi && [ -x "$program" ] && write_receipt "$before" "$log"
 }
 
-# start WORDS..: runs the program, which is proved and built first where the sources aren't those that it was built of. Where `is_tried` is yes, an
-# unproved build answers instead.
+# start WORDS..: runs the program, which is proved and built first where it isn't that of the receipt, the sources and the kit. Where `is_tried` is
+# yes, an unproved build answers instead.
 start() {
     report_terminal "$@"
     if ! is_built; then
-        command -v rt >/dev/null || fail "the program isn't built, and the command \`rt\`, which proves and builds it, isn't on PATH: see \"Run it\" in README.md"
+        command -v rt >/dev/null || fail "$why, and the command \`rt\`, which proves and builds it, isn't on PATH: see \"Run it\" in README.md"
         [ $is_tried = no ] || try_unproved "$@"
         mkdir -p "$out" || exit 100
         exec 9>"$out/lock"
@@ -147,10 +256,30 @@ start() {
         fi
         if ! is_built; then
             build "$@" || { tail -n 20 "$log" >&2 && fail "the program wasn't built (see $log)"; }
-            note_built "$sum"
         fi
         exec 9>&-
         report_terminal "$@"
     fi
     exec "$program" "$@"
+}
+
+# main WORDS..: what a script does with its words. It has the calls `help`, `is_command` and `usage`.
+main() {
+    is_tried=no
+    case $#,${1-} in
+    1,--help | 1,-h) help && exit ;;
+    1,--version) print_version && exit ;;
+    *,try) is_tried=yes && shift ;;
+    esac
+    if is_command "$@"; then start "$@"; fi
+    # Other words have the answer of the program, or its usage line.
+    if is_built; then
+        "$program" "$@"
+        status=$?
+    else
+        usage >&2
+        status=2
+    fi
+    [ $status -ne 2 ] || say "hex text comes on standard input; see \`./$script --help\`"
+    exit $status
 }

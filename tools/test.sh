@@ -1,0 +1,14 @@
+# What the tests share: a test that can't try something for want of a tool says so by `skip`, and the gate counts it.
+
+# skip REASON: WHAT: says what isn't tried, and why.
+skip() {
+    echo "${0##*/}: skipped, $*" >&2
+}
+
+# has TOOL WHAT: whether a tool is there. Where it isn't, its package is named, and what is skipped for want of it.
+has() {
+    command -v "$1" >/dev/null && return
+    package=$(sed -n "s/^$1 //p" "$top/tools/packages")
+    skip "${package:+the package }${package:-$1} is missing: $2"
+    false
+}
