@@ -4,8 +4,8 @@
     python3 tools/pages.py
 
 Examples of README.md and docs/USAGE.md: in a block of indented lines, each line after `$ ` is run by the shell, in a folder with `x86`,
-`show` and examples/, and what it prints must be the lines below it. Where these are `...`, anything may be printed. In the table of statuses the
-example of a row must end with its status, and in the table of texts it must print its last line. Standard error must be empty, but for the
+`show`, tools/ and examples/, and what it prints must be the lines below it. Where these are `...`, anything may be printed. In the table of statuses the
+example of a row must end with its status. Standard error must be empty, but for the
 usage line at status 2. Each run must end within a minute. The programs are the built ones, or those that PROGRAM and SHOW name; where one,
 or a tool of an example, is missing, the examples that need it are skipped with a line.
 
@@ -124,6 +124,7 @@ def program_in(folder, in_pieces=False):
         (Path(folder) / name).write_text(script.replace("PROGRAM", str(program)))
         (Path(folder) / name).chmod(0o755)
     shutil.copytree(TOP / "examples", Path(folder) / "examples")
+    (Path(folder) / "tools").symlink_to(TOP / "tools")
 
 
 def moved(text, base):
@@ -210,17 +211,6 @@ def measure_recipes(page):
         if not is_well:
             print(f"pages: {page}: seconds and kilobytes over {BIG} bytes {once}, over twice as many {twice}: {command}", file=sys.stderr)
             wrong += 1
-    return wrong
-
-
-def run_texts(page):
-    """Runs the examples of the table of texts, and answers how many print another last line."""
-    wrong = 0
-    with tempfile.TemporaryDirectory() as folder:
-        program_in(folder)
-        for command, last in re.findall(r"^\| [^|]* \| `(.*)` \| `(.*)` \| [^|]* \|$", (TOP / page).read_text(), re.M):
-            printed, _, _ = run(command.replace("\\|", "|"), folder)
-            wrong += differs(page, command, "last line", printed.rstrip("\n").split("\n")[-1], last)
     return wrong
 
 
@@ -335,7 +325,7 @@ def main():
     wrong += sum(read_paths(page) for page in ["README.md", *NAMING]) + read_lemmas("docs/DECISIONS.md")
     if os.access(PROGRAM, os.X_OK):
         wrong += run_examples("README.md") + sum(run_examples(page) for page in readmes if (TOP / page).exists())
-        wrong += run_examples("docs/USAGE.md") + run_statuses("docs/USAGE.md") + run_texts("docs/USAGE.md")
+        wrong += run_examples("docs/USAGE.md") + run_statuses("docs/USAGE.md")
         wrong += run_examples("docs/USAGE.md", LIBRARY, in_pieces=True) + run_examples("docs/USAGE.md", KERNEL)
         wrong += measure_recipes("docs/USAGE.md")
     else:

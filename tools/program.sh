@@ -215,6 +215,17 @@ prove_changes() {
     (cd "$top/crates/$PROGRAM_CRATE" && rt run -- $sample) </dev/null >>"$log" 2>&1
 }
 
+# note START FILE [PROGRAM WORD..]: says what is wrong with the beginning of a text, where perl is there (tools/note).
+note() {
+    if command -v perl >/dev/null; then perl "$top/tools/note" "$@"; fi
+}
+
+# Becomes the program. Of a pipe or a file it says before what is wrong with the beginning of the text, and takes nothing of it.
+become() {
+    [ "${1-}" != make ] && { [ -p /dev/stdin ] || [ -f /dev/stdin ]; } && command -v perl >/dev/null || exec "$program" "$@"
+    exec perl "$top/tools/note" "./$script $*" - "$program" "$@"
+}
+
 # Answers without a proof: the kit compiles the sources with checks, and runs them once over the whole text.
 try_unproved() {
     work=$(mktemp -d) || exit 100
@@ -223,6 +234,7 @@ try_unproved() {
     say "not proved: the sources are compiled with checks, within a minute, and nothing is kept; \`./$script $*\` proves them first"
     if [ "${1-}" = make ]; then : >"$work/text"; else head -c $TRY_MAX >"$work/text"; fi
     if [ "$(wc -c <"$work/text")" -lt $TRY_MAX ]; then
+        note "./$script $*" "$work/text"
         (cd "$top/crates/$PROGRAM_CRATE" && rt try -- "$@") <"$work/text" >"$work/answer" 2>"$work/said"
         status=$(sed -n 's/^run=ended status=\([0-9]*\) .*proved=no$/\1/p' "$work/said")
         [ -z "$status" ] || { cat "$work/answer" && exit "$status"; }
@@ -260,7 +272,7 @@ start() {
         exec 9>&-
         report_terminal "$@"
     fi
-    exec "$program" "$@"
+    become "$@"
 }
 
 # main WORDS..: what a script does with its words. It has the calls `help`, `is_command` and `usage`.
