@@ -21,8 +21,7 @@ Quoted code of the pages of `QUOTING`: each indented line that isn't a command, 
 by letter. The links of the pages of `LINKING` are to files and headings that are there (tools/theorem.py writes their code). Each file that
 README.md or a page of docs/ names by its crate, by tools/ or by docs/ is there, but for those of docs/CHANGES.md.
 
-Reasons of tools/compare: those of tools/judge/reasons.c are the rows of their section of docs/DIFFERENCES.md. The picture docs/speed.svg is
-what tools/chart.py draws. The modules of lemmas in docs/DECISIONS.md are those that proofs of x86_decode import.
+Reasons of tools/compare: those of tools/judge/reasons.c are the rows of their section of docs/DIFFERENCES.md. The modules of lemmas in docs/DECISIONS.md are those that proofs of x86_decode import.
 """
 
 import os
@@ -35,8 +34,6 @@ import tempfile
 import time
 from pathlib import Path
 
-sys.dont_write_bytecode = True
-import chart
 
 TOP = Path(__file__).resolve().parent.parent
 CRATE = re.search(r"^PROGRAM_CRATE=(\w+)$", (TOP / "tools" / "program.sh").read_text(), re.M)[1]
@@ -288,14 +285,6 @@ def read_paths(page):
     return len(missing)
 
 
-def read_chart():
-    """Compares the picture of the figures with the page that has them, and answers whether they differ."""
-    if chart.CHART.read_text() == chart.drawn():
-        return 0
-    print("pages: docs/speed.svg isn't what tools/chart.py draws", file=sys.stderr)
-    return 1
-
-
 def read_reasons(page):
     """Holds the reasons of tools/compare against the rows of their section, and answers how many are in one alone."""
     names = set(re.findall(r'^    \{"([^"]+)", "', (TOP / "tools" / "judge" / "reasons.c").read_text(), re.M))
@@ -321,7 +310,7 @@ def main():
     readmes = [f"crates/{crate}/README.md" for crate in re.findall(r"^(\w+)\b.*:", (TOP / "crates.txt").read_text(), re.M)]
     wrong = read_guide("docs/GUIDE.md", CODE, has_outputs=True) + read_guide("README.md", CODE) + sum(read_quotes(page) for page in QUOTING)
     wrong += sum(read_size(page) or read_guide(page, TESTS) for page in readmes)
-    wrong += sum(read_links(page) for page in LINKING) + read_chart() + read_reasons("docs/DIFFERENCES.md")
+    wrong += sum(read_links(page) for page in LINKING) + read_reasons("docs/DIFFERENCES.md")
     wrong += sum(read_paths(page) for page in ["README.md", *NAMING]) + read_lemmas("docs/DECISIONS.md")
     if os.access(PROGRAM, os.X_OK):
         wrong += run_examples("README.md") + sum(run_examples(page) for page in readmes if (TOP / page).exists())
