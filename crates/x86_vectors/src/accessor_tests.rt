@@ -50,10 +50,22 @@ fn kinds_of_conditional_operations(rt: HostRuntime) {
     for (at, condition) in CONDITIONS.into_iter().enumerate() {
         let low = at as u8;
         let near = [0x0f, 0x80 + low, 0, 0, 0, 0];
-        assert!(rt; is_of_kind(&[0x70 + low, 0], condition, [true, false, false]));
-        assert!(rt; is_of_kind(&near, condition, [true, false, false]));
-        assert!(rt; is_of_kind(&[0x0f, 0x40 + low, 0xc0], condition, [false, true, false]));
-        assert!(rt; is_of_kind(&[0x0f, 0x90 + low, 0xc0], condition, [false, false, true]));
+        assert!(rt;
+            is_of_kind(&[0x70 + low, 0], condition, [true, false, false]),
+            "short jump {low}"
+        );
+        assert!(rt;
+            is_of_kind(&near, condition, [true, false, false]),
+            "near jump {low}"
+        );
+        assert!(rt;
+            is_of_kind(&[0x0f, 0x40 + low, 0xc0], condition, [false, true, false]),
+            "move {low}"
+        );
+        assert!(rt;
+            is_of_kind(&[0x0f, 0x90 + low, 0xc0], condition, [false, false, true]),
+            "setting {low}"
+        );
     }
 }
 

@@ -34,6 +34,8 @@ mod refusal_tests;
 #[cfg(test)]
 mod row_table;
 #[cfg(test)]
+mod shortest_table;
+#[cfg(test)]
 mod slot_tests;
 #[cfg(test)]
 mod sweep_tests;

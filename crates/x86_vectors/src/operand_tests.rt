@@ -43,8 +43,8 @@ fn visited_immediates_and_registers(rt: HostRuntime) {
         Operand::AbsoluteU64 { addr: 10 },
         Operand::Nothing,
     ];
-    for operand in operands {
-        assert!(rt; is_decoded(operand));
+    for (at, operand) in operands.into_iter().enumerate() {
+        assert!(rt; is_decoded(operand), "operand {at}");
     }
 }
 
@@ -89,8 +89,8 @@ fn visited_memory(rt: HostRuntime) {
             mask,
         },
     ];
-    for operand in operands {
-        assert!(rt; is_decoded(operand));
+    for (at, operand) in operands.into_iter().enumerate() {
+        assert!(rt; is_decoded(operand), "operand {at}");
     }
 }
 
@@ -180,6 +180,9 @@ const ADDRESSES: &[(&[u8], u8, &[u8], u64)] = &[
 fn addresses_by_hand(rt: HostRuntime) {
     let regs = few_registers();
     for (run, modrm, bytes, sum) in ADDRESSES {
-        assert!(rt; adds_up(&reading_of(run), *modrm, bytes, &regs, *sum));
+        assert!(rt;
+            adds_up(&reading_of(run), *modrm, bytes, &regs, *sum),
+            "at {sum}"
+        );
     }
 }

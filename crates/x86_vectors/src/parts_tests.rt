@@ -31,7 +31,7 @@ const PARTS: &[(&str, &str)] = &[
 #[test]
 fn parts(rt: HostRuntime) {
     for (pairs, line) in PARTS {
-        assert!(rt; has_parts(pairs, line));
+        assert!(rt; has_parts(pairs, line), "{pairs}");
     }
 }
 

@@ -191,9 +191,18 @@ fn map_agrees(prefix: u8, escape: [u8; 3]) -> bool {
 #[test]
 fn every_opcode_by_a_plain_loop(rt: HostRuntime) {
     for prefix in [0x2eu8, 0x66, 0xf2, 0xf3, 0xf0, 0x67] {
-        assert!(rt; map_agrees(prefix, [0x2e, 0x2e, 0x48]));
-        assert!(rt; map_agrees(prefix, [0x2e, 0x2e, 0x0f]));
-        assert!(rt; map_agrees(prefix, [0x2e, 0x0f, 0x38]));
-        assert!(rt; map_agrees(prefix, [0x2e, 0x0f, 0x3a]));
+        assert!(rt;
+            map_agrees(prefix, [0x2e, 0x2e, 0x48]),
+            "REX after {prefix}"
+        );
+        assert!(rt; map_agrees(prefix, [0x2e, 0x2e, 0x0f]), "0F after {prefix}");
+        assert!(rt;
+            map_agrees(prefix, [0x2e, 0x0f, 0x38]),
+            "0F 38 after {prefix}"
+        );
+        assert!(rt;
+            map_agrees(prefix, [0x2e, 0x0f, 0x3a]),
+            "0F 3A after {prefix}"
+        );
     }
 }

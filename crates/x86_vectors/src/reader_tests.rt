@@ -26,12 +26,8 @@ fn split_input(rt: HostRuntime) {
     let bytes = [0x03, 0x05, 0x00, 0x00, 0x00, 0x00];
     let whole = decoded(&bytes);
     for seam in 0..=6usize {
-        assert!(rt;
-            reads(
-                &mut ChunkReader::new(&bytes[..seam], &bytes[seam..]),
-                &whole
-            )
-        );
+        let mut reader = ChunkReader::new(&bytes[..seam], &bytes[seam..]);
+        assert!(rt; reads(&mut reader, &whole), "a seam at {seam}");
     }
 }
 

@@ -1,5 +1,6 @@
-//! Shortest encodings, worked by hand.
+//! Shortest encodings: worked by hand, and by GNU objdump among all spellings of an address.
 use crate::line_tests::bytes_of;
+use crate::shortest_table::SPELLINGS;
 use x86_decode::InstDecoder;
 use x86_fields::DecodeError;
 use x86_layout::{TightenError, tighten};
@@ -29,7 +30,24 @@ const SHORTEST: &[(&str, &str)] = &[
 #[test]
 fn the_shortest_addresses(rt: HostRuntime) {
     for (pairs, wanted) in SHORTEST {
-        assert!(rt; becomes(pairs, wanted));
+        assert!(rt; becomes(pairs, wanted), "{pairs}");
+    }
+}
+
+/// Whether a line of the table is so: an encoding, and its shortest spellings, of which it becomes one.
+fn is_shortest_row(row: &str) -> bool {
+    match row.split_once(" => ") {
+        Some((pairs, spellings)) => spellings
+            .split(" | ")
+            .any(|spelling| becomes(pairs, spelling)),
+        None => false,
+    }
+}
+
+#[test]
+fn the_shortest_of_all_spellings(rt: HostRuntime) {
+    for row in SPELLINGS.lines() {
+        assert!(rt; is_shortest_row(row), "{row}");
     }
 }
 
