@@ -12,7 +12,6 @@ from form_rows import CARRIED, GROUPS, PLAIN, noted, rows_of
 FORMS = Path(__file__).resolve().parent.parent / "crates" / "x86_forms"
 # the groups that reg chooses, in the order of `RegGroup`
 BY_REG = ["80", "81", "83", "c0", "c1", "c6", "c7", "d0", "d1", "d2", "d3", "f6", "f7", "fe", "ff"]
-HALVES = [["Opcode", "MOVLPD"], ["Opcode", "MOVHPD"]]  # the loads that `FormByOpcode` refuses at a register form
 # the last operands of lines, in the words of rows
 LASTS = {word: word for word in ("I8", "U8", "U16", "I32", "Iv", "Ivq", "Ip")}
 LASTS |= {"signed_one": "SIGNED_ONE", "unsigned_one": "UNSIGNED_ONE", "three": "THREE", "cl": "CL"}
@@ -56,9 +55,6 @@ def after_opcode(rows):
     first = rows[0]
     if not others:
         return {"Either": "EitherForm", "Bare": "Nothing"}.get(last.place)
-    if [each.when for each in others] == HALVES and last.place == "Either":
-        halves = [(each.place, each.reg, each.operands, each.error) for each in others]
-        return "FormByOpcode" if halves == [("Register", "Any", last.operands, "BadOperand AtModRM")] * 2 else None
     if others == [first] and (last.place, last.reg, last.when, last.operands) == ("Either", "Any", "Always", first.operands):
         restricted = {("Memory", "BadOperand AtModRM"): "Memory", ("Register", "BadOperand AfterAddress"): "Registers"}
         return restricted.get((first.place, last.error))

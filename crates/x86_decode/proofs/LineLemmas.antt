@@ -66,7 +66,6 @@ with_modrm : {r : Result ℕ DecodeError} {t : State ℕ} (s : State ℕ) (stric
 with_modrm s strict row p after_opcode.EitherForm plain usage h e = form_row s strict row p EitherForm usage plain e
 with_modrm s strict row p after_opcode.Memory plain usage h e = form_row s strict row p EitherForm usage plain e
 with_modrm s strict row p after_opcode.Registers plain usage h e = form_row s strict row p EitherForm usage plain e
-with_modrm s strict row p after_opcode.FormByOpcode plain usage h e = form_row s strict row p EitherForm usage plain e
 with_modrm s strict row p (after_opcode.ByReg g) belongs usage h e = ap (λ o. after_modrm strict row p o.answer o.after) e ∙ sym (group_row g strict row p s belongs)
 with_modrm s strict row p b belongs usage h e = absurd cc
 
@@ -74,7 +73,7 @@ pub row_with_modrm : {r : Result ℕ DecodeError} {t : State ℕ} (s : State ℕ
 row_with_modrm s strict row p b belongs usage h e = with_modrm s strict row p b belongs usage h (e ∙ sym (read_either s))
 
 -- no ModRM byte, where a line describes the form
-pub row_without_modrm : (s : State ℕ) (strict : Bool) (row : TableRow) (p : Prefixes) (m : ℕ) (b : AfterOpcode) → Belongs b row.form → modrm_use row.form ≡ use_of b → has_fields b ≡ false → allows b row.opcode m ≡ true → m ≡ absent_modrm → read_plan (plan_at strict row p m) p m s ≡ row_step strict row p s
+pub row_without_modrm : (s : State ℕ) (strict : Bool) (row : TableRow) (p : Prefixes) (m : ℕ) (b : AfterOpcode) → Belongs b row.form → modrm_use row.form ≡ use_of b → has_fields b ≡ false → allows b m ≡ true → m ≡ absent_modrm → read_plan (plan_at strict row p m) p m s ≡ row_step strict row p s
 row_without_modrm s strict row p m after_opcode.Nothing plain usage h may e = form_row {r = Ok m} {t = s} s strict row p Absent usage plain (ap (λ x. outcome (Ok x) s) e)
 row_without_modrm s strict row p m after_opcode.Opcode plain usage h may e = form_row {r = Ok m} {t = s} s strict row p Absent usage plain (ap (λ x. outcome (Ok x) s) e)
 row_without_modrm s strict row p m after_opcode.Accumulator plain usage h may e = form_row {r = Ok m} {t = s} s strict row p Absent usage plain (ap (λ x. outcome (Ok x) s) e)

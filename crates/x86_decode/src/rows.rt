@@ -54,7 +54,7 @@ fn line_without_modrm<'a>(found: &WordRow, encoding: &'a FormEncoding) -> Found<
         ≡ row_step strict found.now.row i.prefixes s }
 {
     let modrm = ModRM::absent();
-    if encoding.after_opcode.allows(found.row.opcode, modrm) {
+    if encoding.after_opcode.allows(modrm) {
         Found::Line(RowLine {
             encoding,
             opcode: found.row.opcode,
@@ -82,7 +82,6 @@ fn read_line<'a, T: Reader<u64, u8>>(
         AfterOpcode::EitherForm
             | AfterOpcode::Memory
             | AfterOpcode::Registers
-            | AfterOpcode::FormByOpcode
             | AfterOpcode::ByReg(_)
     );
     if !has_fields {
@@ -95,7 +94,7 @@ fn read_line<'a, T: Reader<u64, u8>>(
     };
     let accepts = match encoding.after_opcode {
         AfterOpcode::EitherForm => true,
-        other => other.allows(opcode, modrm),
+        other => other.allows(modrm),
     };
     if accepts {
         Ok(Found::Line(RowLine {

@@ -8,7 +8,7 @@ ghost use Rattle.x86_forms.specs.Ordinals.{first_ordinal_of};
 
 use crate::Form;
 
-pub(crate) const FORMS: &[Form; 198] = &[
+pub(crate) const FORMS: &[Form; 199] = &[
     Form::Zv_R(0),
     Form::Zv_R(1),
     Form::Zv_R(2),
@@ -191,6 +191,7 @@ pub(crate) const FORMS: &[Form; 198] = &[
     Form::ModRM_0xf20f78,
     Form::G_mm_U_xmm,
     Form::G_M_xmm,
+    Form::G_Mq_xmm,
     Form::M_Gv,
     Form::MOVDIR64B,
     Form::ModRM_0xf30f38d8,
@@ -365,22 +366,23 @@ impl Form {
             Form::ModRM_0xf20f78 => 179,
             Form::G_mm_U_xmm => 180,
             Form::G_M_xmm => 181,
-            Form::M_Gv => 182,
-            Form::MOVDIR64B => 183,
-            Form::ModRM_0xf30f38d8 => 184,
-            Form::ModRM_0xf30f38dc => 185,
-            Form::ModRM_0xf30f38dd => 186,
-            Form::ModRM_0xf30f38de => 187,
-            Form::ModRM_0xf30f38df => 188,
-            Form::ModRM_0xf30f38fa => 189,
-            Form::ModRM_0xf30f38fb => 190,
-            Form::Gdq_Ev => 191,
-            Form::G_E_xmm_Ub => 192,
-            Form::Ev_G_xmm_Ib => 193,
-            Form::Pextr_dq => 194,
-            Form::G_Ev_xmm_Ib => 195,
-            Form::Pinsr_dq => 196,
-            Form::ModRM_0xf30f3af0 => 197,
+            Form::G_Mq_xmm => 182,
+            Form::M_Gv => 183,
+            Form::MOVDIR64B => 184,
+            Form::ModRM_0xf30f38d8 => 185,
+            Form::ModRM_0xf30f38dc => 186,
+            Form::ModRM_0xf30f38dd => 187,
+            Form::ModRM_0xf30f38de => 188,
+            Form::ModRM_0xf30f38df => 189,
+            Form::ModRM_0xf30f38fa => 190,
+            Form::ModRM_0xf30f38fb => 191,
+            Form::Gdq_Ev => 192,
+            Form::G_E_xmm_Ub => 193,
+            Form::Ev_G_xmm_Ib => 194,
+            Form::Pextr_dq => 195,
+            Form::G_Ev_xmm_Ib => 196,
+            Form::Pinsr_dq => 197,
+            Form::ModRM_0xf30f3af0 => 198,
         }
     }
 }

@@ -90,11 +90,11 @@ module _ (e : FormEncoding) (n opcode : ℕ) (p : Prefixes) (m : ℕ) where
       ∙ ap (λ (u : Outcome Operands). then_from u.answer u.after (λ operand_list. pure (reading_with opcode p operand_list))) (last_is e.order.last e.last p (written memory) s)
 
   -- where rm is no operand, no memory is read
-  memory_by : (test : Bool) (s : State ℕ) → somewhere e.order.rm ≡ test → order_fits e.after_opcode e.order ≡ true → allows e.after_opcode opcode m ≡ true → read_memory p m s ≡ (if test then read_memory p m else pure None) s
+  memory_by : (test : Bool) (s : State ℕ) → somewhere e.order.rm ≡ test → order_fits e.after_opcode e.order ≡ true → allows e.after_opcode m ≡ true → read_memory p m s ≡ (if test then read_memory p m else pure None) s
   memory_by true s i f a = refl
-  memory_by false s i f a = rw (no_memory e.after_opcode opcode m (no_modrm e.after_opcode (somewhere e.order.reg) (rw i at f)) a) refl
+  memory_by false s i f a = rw (no_memory e.after_opcode m (no_modrm e.after_opcode (somewhere e.order.reg) (rw i at f)) a) refl
 
-  pub plan_is_read : (s : State ℕ) → is_order e.order ≡ true → is_last e.last ≡ true → order_fits e.after_opcode e.order ≡ true → allows e.after_opcode opcode m ≡ true →
+  pub plan_is_read : (s : State ℕ) → is_order e.order ≡ true → is_last e.last ≡ true → order_fits e.after_opcode e.order ≡ true → allows e.after_opcode m ≡ true →
       read_plan (plan_of e n opcode p m) p m s ≡ (operands_read e n p m (sized e.order.count size) >>= λ operand_list. pure (reading_with opcode p operand_list)) s
   unfolding read_plan
   plan_is_read s h l f a =
@@ -122,5 +122,5 @@ abbrev pub rm_pair : Width → Prefixes → ℕ → Pair
 rm_pair width.Mm p m = memory_or (reg_spec (rm_field m) class.MM) None
 rm_pair w p m = memory_or (register_of (class_of w p) p (rm_number m p)) None
 
-pub rm_in_register : (b : AfterOpcode) (w : Width) (p : Prefixes) (m : ℕ) → has_modrm b ≡ true → ((opcode : ℕ) × (allows b opcode m ≡ true)) → is_memory m ≡ false → known_operand (rm_encoding b w) p m None ≡ rm_pair w p m
-rm_in_register b w p m h a e = let may = a.1 in grind arith
+pub rm_in_register : (b : AfterOpcode) (w : Width) (p : Prefixes) (m : ℕ) → has_modrm b ≡ true → allows b m ≡ true → is_memory m ≡ false → known_operand (rm_encoding b w) p m None ≡ rm_pair w p m
+rm_in_register b w p m h a e = grind arith

@@ -43,7 +43,7 @@ tested false m = is_memory m
 says : (f : Form) (d : FormEncoding) (memory : Bool) (o m : ℕ) (p : Prefixes) → is_memory m ≡ memory → ◌≡◌ {A = Bool × Plan} (tested (is_memory m) m, said (line_of f d) f o p m) (tested (is_memory m) m, form_plan (row_with o f) p m)
 unfolding form_rows form_plan
 says (form.Zv_R n) d true o m p e = rw e (rw e refl)
-says form.PMOVX_G_E_xmm d memory o m p e = grind (arith, e)
+says (form.Zv_R n) d false o m p e = rw e (rw e refl)
 says f d true o m p e = rw e (rw e refl)
 says f d false o m p e = rw e (rw e refl)
 

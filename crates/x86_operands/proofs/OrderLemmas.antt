@@ -38,11 +38,11 @@ named_of a b c n h = cc
 
 -- ---- the verdict
 
-pub accepted : (b : AfterOpcode) (m o size : ℕ) (encodings : OperandEncodings) → allows b o m ≡ true → restricted_plan b m (reads o encodings size) ≡ reads o encodings size
+pub accepted : (b : AfterOpcode) (m o size : ℕ) (encodings : OperandEncodings) → allows b m ≡ true → restricted_plan b m (reads o encodings size) ≡ reads o encodings size
 accepted b m o size encodings h = grind arith
 
-pub no_memory : (b : AfterOpcode) (o m : ℕ) → has_modrm b ≡ false → allows b o m ≡ true → is_memory m ≡ false
-no_memory b o m h a = grind arith
+pub no_memory : (b : AfterOpcode) (m : ℕ) → has_modrm b ≡ false → allows b m ≡ true → is_memory m ≡ false
+no_memory b m h a = grind arith
 
 pub no_modrm : (b : AfterOpcode) (register : Bool) → (if register then has_register b else not (has_modrm b)) ≡ true → has_modrm b ≡ false
 no_modrm b register h = grind arith
@@ -55,8 +55,8 @@ sound_parts e h =
     let rest = and_parts (order_fits e.after_opcode e.order) (is_last e.last) parts.1 in
     (parts.0, rest.0, rest.1)
 
-pub allowed_is_described : (b : AfterOpcode) (o m : ℕ) → allows b o m ≡ true → IsTrue (is_described b)
-allowed_is_described b o m h = grind arith
+pub allowed_is_described : (b : AfterOpcode) (m : ℕ) → allows b m ≡ true → IsTrue (is_described b)
+allowed_is_described b m h = grind arith
 
 -- ---- what a line has is what its plan has
 

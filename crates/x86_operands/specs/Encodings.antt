@@ -3,7 +3,7 @@ use Rattle.std.specs.Prelude.{ℕ, Bool, true, false, ◌==◌, ◌+◌, if◌th
 use Rattle.std.specs.Map.{lookup}
 use Rattle.x86_regs.specs.declared.RegisterClass.TheVariants as class
 use Rattle.x86_opcodes.specs.Kinds.{is_among}
-use Rattle.x86_opcodes.specs.Names.{CALL, CMPSD, CMPSS, ROUNDSS, ROUNDSD, MOVDDUP, MOVNTSS, MOVNTPS, MOVNTPD, MOVNTDQ, PEXTRB, PEXTRW, EXTRACTPS, PINSRB, INSERTPS, PMOVSXBQ, PMOVZXBQ, PMOVSXBD, PMOVZXBD, PMOVSXWQ, PMOVZXWQ, UCOMISS, COMISS, CVTSS2SD, MOVLPD, MOVHPD, PUNPCKLBW, PUNPCKLWD, PUNPCKLDQ, RETURN, RETF, PUSHF, POPF, LEAVE, XLAT}
+use Rattle.x86_opcodes.specs.Names.{Invalid, CALL, CMPSD, CMPSS, ROUNDSS, ROUNDSD, MOVDDUP, MOVNTSS, MOVNTPS, MOVNTPD, MOVNTDQ, PEXTRB, PEXTRW, EXTRACTPS, PINSRB, INSERTPS, PMOVSXBQ, PMOVZXBQ, PMOVSXBD, PMOVZXBD, PMOVSXWQ, PMOVZXWQ, UCOMISS, COMISS, CVTSS2SD, PUNPCKLBW, PUNPCKLWD, PUNPCKLDQ, RETURN, RETF, PUSHF, POPF, LEAVE, XLAT}
 use Rattle.x86_operands.specs.Vocabulary.{width_of, RegisterClass, Prefixes, AtModRM, AfterAddress, Width, OperandEncoding, OperandEncodings, Zero, One, Two, Three, Plan, Position, First, Second, Third, Nowhere, Order, AfterOpcode, Size, FormEncoding, ModrmUse, v_class, vq_class, dq_class, is_memory, has_w, operand_size, address_size}
 use Rattle.x86_fields.specs.declared.sizes.Width.TheVariants as width
 use Rattle.x86_operands.specs.declared.plans.OperandEncoding.TheVariants as encoding
@@ -116,14 +116,9 @@ encodings_in o reg rm last =
 abbrev pub size_at : FormEncoding → ℕ → Size
 size_at e m = if is_memory m then e.in_memory else e.in_register
 
--- a load of half an xmm register, at a ModRM byte of the register form
-abbrev pub lacks_memory : ℕ → ℕ → Bool
-lacks_memory o m = is_among (MOVLPD ∷ MOVHPD ∷ []) o && not (is_memory m)
-
 abbrev pub restricted_plan : AfterOpcode → ℕ → Plan → Plan
 restricted_plan after_opcode.Memory m plan = refused (not (is_memory m)) AtModRM plan
 restricted_plan after_opcode.Registers m plan = refused (is_memory m) AfterAddress plan
-restricted_plan after_opcode.FormByOpcode m plan = refused (lacks_memory plan.opcode m) AtModRM plan
 restricted_plan b m plan = plan
 
 -- the plan of a form with this encoding, whose opcode byte carries n
@@ -163,7 +158,6 @@ abbrev pub has_modrm : AfterOpcode → Bool
 has_modrm after_opcode.EitherForm = true
 has_modrm after_opcode.Memory = true
 has_modrm after_opcode.Registers = true
-has_modrm after_opcode.FormByOpcode = true
 has_modrm b = false
 
 -- whether a ModRM byte follows whose line is known, or chosen by reg
@@ -180,10 +174,9 @@ has_register b = false
 abbrev pub order_fits : AfterOpcode → Order → Bool
 order_fits b o = if somewhere o.rm then has_modrm b else (if somewhere o.reg then has_register b else not (has_modrm b))
 
--- the operations and ModRM bytes that a line accepts: its plan doesn't refuse them. A ModRM byte that isn't there reads
--- as C0
-abbrev pub allows : AfterOpcode → ℕ → ℕ → Bool
-allows b o m = is_described b && (not (is_refusal (restricted_plan b m (reads o Zero 0)).verdict) && (has_modrm b || not (is_memory m)))
+-- the ModRM bytes that a line accepts: its plan doesn't refuse them. One that isn't there reads as C0
+abbrev pub allows : AfterOpcode → ℕ → Bool
+allows b m = is_described b && (not (is_refusal (restricted_plan b m (reads Invalid Zero 0)).verdict) && (has_modrm b || not (is_memory m)))
 
 abbrev pub is_sound : FormEncoding → Bool
 is_sound e = is_order e.order && (order_fits e.after_opcode e.order && is_last e.last)

@@ -5,7 +5,7 @@
 -- form, and of the register form). A form with one row whose name is that of the opcode map has a word for where.
 -- specs/Words.antt has the words, specs/Columns.antt what they mean, and specs/PlanSteps.antt what the letters mean.
 use Rattle.std.specs.Prelude.{List, [], ◌∷◌}
-use Rattle.x86_opcodes.specs.Names.{CBW, CDQ, CDQE, CQO, CWD, CWDE, ENQCMD, ENQCMDS, IRET, IRETD, IRETQ, JECXZ, LFS, LGS, LSS, MOVHPD, MOVLPD, MOVQ, NOP, PEXTRD, PEXTRQ, PINSRD, PINSRQ}
+use Rattle.x86_opcodes.specs.Names.{CBW, CDQ, CDQE, CQO, CWD, CWDE, ENQCMD, ENQCMDS, IRET, IRETD, IRETQ, JECXZ, LFS, LGS, LSS, MOVQ, NOP, PEXTRD, PEXTRQ, PINSRD, PINSRQ}
 use Rattle.x86_fields.specs.declared.sizes.Width.TheVariants.{B, W, D, Q, X, V, Vq, Vd, Dq}
 use Rattle.x86_operands.specs.Vocabulary.{Form, BadOperand, Incomplete, AtModRM, AfterAddress, AfterSuffix, SetsEs}
 use Rattle.x86_operands.specs.RowVocabulary.{FormRow, Own, Name, Bytes, Of}
@@ -114,10 +114,8 @@ form_rows form.G_M_xmm = with_memory (Two (G X) M) (size 16)
 form_rows form.M_G_xmm = with_memory (Two M (G X)) (size_of Stream)
 form_rows form.G_E_xmm_Ib = with_modrm (Three (G X) (E X) I8) (or_v (Of Scalar))
 form_rows form.G_E_xmm_Ub = with_modrm (Three (G X) (E X) U8) (or_v (Bytes 16))
-form_rows form.PMOVX_G_E_xmm =
-    refusing reg (Opcode MOVLPD) (Two (G X) (E X)) BadOperand AtModRM ∷
-    refusing reg (Opcode MOVHPD) (Two (G X) (E X)) BadOperand AtModRM ∷
-    read both Always Own (Two (G X) (E X)) (or_v (Of Extend)) ∷ []
+form_rows form.PMOVX_G_E_xmm = with_modrm (Two (G X) (E X)) (or_v (Of Extend))
+form_rows form.G_Mq_xmm = with_memory (Two (G X) M) (size 8)
 form_rows form.PMOVX_E_G_xmm = with_modrm (Two (E X) (G X)) (or_v (Bytes 8))
 form_rows form.MOVQ_f30f = with_modrm (Two (G X) (E X)) (or_v (Bytes 8))
 form_rows form.Gdq_Eq_xmm = with_modrm (Two (G V) (E X)) (or_v (Bytes 8))

@@ -41,8 +41,6 @@ pub enum AfterOpcode {
     Memory,
     /// A ModRM of the register form; the memory form is refused.
     Registers,
-    /// A ModRM of either form; a load of half a register refuses the register form.
-    FormByOpcode,
     /// A ModRM whose reg chooses the line.
     ByReg(RegGroup),
     /// No ModRM, and no register.
@@ -156,16 +154,14 @@ impl OperandEncodings {
 }
 
 impl AfterOpcode {
-    /// Whether a line accepts an operation at this ModRM byte; one that isn't there reads as C0.
+    /// Whether a line accepts this ModRM byte; one that isn't there reads as C0.
     #[inline(always)]
-    pub fn allows(self, opcode: Opcode, modrm: ModRM) -> bool
-        ensures { result ≡ allows self opcode modrm }
+    pub fn allows(self, modrm: ModRM) -> bool
+        ensures { result ≡ allows self modrm }
     {
         match self {
             AfterOpcode::EitherForm => true,
             AfterOpcode::Memory => modrm.is_memory(),
-            AfterOpcode::FormByOpcode => modrm.is_memory()
-                || !matches!(opcode, Opcode::MOVLPD | Opcode::MOVHPD),
             AfterOpcode::ByReg(_) | AfterOpcode::ByPlan(_) | AfterOpcode::Group => false,
             _ => !modrm.is_memory(),
         }

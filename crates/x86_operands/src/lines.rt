@@ -7,7 +7,7 @@ use crate::plans::ModrmUse;
 use crate::{FormEncoding, RegGroup};
 
 /// The line of each form by the number that words have for it. A form that carries a number has eight.
-pub(crate) const ENCODINGS: &[FormEncoding; 199] = &[
+pub(crate) const ENCODINGS: &[FormEncoding; 200] = &[
     other!(ByPlan(ModrmUse::Absent)), // the number 0, which no form has
     encoded!(Opcode R Vq B ABSENT Eight Eight), // Zv_R
     encoded!(Opcode R Vq B ABSENT Eight Eight), // Zv_R
@@ -157,7 +157,7 @@ pub(crate) const ENCODINGS: &[FormEncoding; 199] = &[
     encoded!(Memory E_G X B ABSENT Stream Stream), // M_G_xmm
     encoded!(EitherForm G_E X Mm ABSENT Eight V), // G_xmm_E_mm
     encoded!(EitherForm G_E Mm X ABSENT Sixteen V), // G_mm_E_xmm
-    encoded!(FormByOpcode G_E X X ABSENT Extend V), // PMOVX_G_E_xmm
+    encoded!(EitherForm G_E X X ABSENT Extend V), // PMOVX_G_E_xmm
     encoded!(Registers G_E D X ABSENT V V), // Gd_U_xmm
     encoded!(EitherForm G_E Mm Dq ABSENT V V), // G_mm_Edq
     encoded!(EitherForm G_E Mm Mm ABSENT Eight V), // G_mm_E
@@ -191,6 +191,7 @@ pub(crate) const ENCODINGS: &[FormEncoding; 199] = &[
     other!(Group), // ModRM_0xf20f78
     encoded!(Registers G_E Mm X ABSENT V V), // G_mm_U_xmm
     encoded!(Memory G_E X B ABSENT Sixteen Sixteen), // G_M_xmm
+    encoded!(Memory G_E X B ABSENT Eight Eight), // G_Mq_xmm
     encoded!(Memory E_G V B ABSENT V V), // M_Gv
     other!(ByPlan(ModrmUse::EitherForm)), // MOVDIR64B
     other!(Group), // ModRM_0xf30f38d8

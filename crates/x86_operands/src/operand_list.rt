@@ -217,8 +217,7 @@ impl Operands {
     ) -> Result<(), DecodeError>
         requires small { num < 8 }
         requires fits { order_fits encoding.now.after_opcode encoding.now.order ≡ true }
-        requires allowed { (opcode : ℕ) ×
-            (allows encoding.now.after_opcode opcode fields.now.modrm ≡ true) }
+        requires allowed { allows encoding.now.after_opcode fields.now.modrm ≡ true }
         ensures { outcome (value_if_ok result self.new) (T.state reader.new)
             ≡ leading_read encoding.now num fields.now.prefixes.now fields.now.modrm self.old
             (T.state reader.old) }
@@ -275,7 +274,7 @@ impl Operands {
         requires blank { self.old ≡ no_operands }
         requires small { num < 8 }
         requires sound { is_sound encoding.now ≡ true }
-        requires allowed { allows encoding.now.after_opcode opcode modrm ≡ true }
+        requires allowed { allows encoding.now.after_opcode modrm ≡ true }
         ensures { outcome (value_if_ok result (reading_with opcode prefixes.now self.new))
             (T.state reader.new) ≡ read_plan (plan_of encoding.now num opcode prefixes.now modrm)
             prefixes.now modrm (T.state reader.old) }

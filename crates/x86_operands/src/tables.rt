@@ -125,8 +125,6 @@ pub(crate) const ROWS: &[FormRow; 157] = &[
     refusal!(Either Reg::Any, Rm::Any; Always; Two(M, G(X)); BadOperand AtModRM), // M_G_xmm
     read!(Either Reg::Any, Rm::Any; Always; Own; Two(G(X), Emm); Bytes(8); Of(Size::V)), // G_xmm_E_mm
     read!(Either Reg::Any, Rm::Any; Always; Own; Two(Gmm, E(X)); Bytes(16); Of(Size::V)), // G_mm_E_xmm
-    refusal!(Register Reg::Any, Rm::Any; Opcode(237); Two(G(X), E(X)); BadOperand AtModRM), // PMOVX_G_E_xmm MOVLPD
-    refusal!(Register Reg::Any, Rm::Any; Opcode(238); Two(G(X), E(X)); BadOperand AtModRM), // PMOVX_G_E_xmm MOVHPD
     read!(Either Reg::Any, Rm::Any; Always; Own; Two(G(X), E(X)); Of(Size::Extend); Of(Size::V)), // PMOVX_G_E_xmm
     read!(Register Reg::Any, Rm::Any; Always; Own; Two(G(D), U(X)); Of(Size::V); Of(Size::V)), // Gd_U_xmm
     refusal!(Either Reg::Any, Rm::Any; Always; Two(G(D), U(X)); BadOperand AfterAddress), // Gd_U_xmm
@@ -171,6 +169,8 @@ pub(crate) const ROWS: &[FormRow; 157] = &[
     refusal!(Either Reg::Any, Rm::Any; Always; Two(Gmm, U(X)); BadOperand AfterAddress), // G_mm_U_xmm
     read!(Memory Reg::Any, Rm::Any; Always; Own; Two(G(X), M); Bytes(16); Bytes(16)), // G_M_xmm
     refusal!(Either Reg::Any, Rm::Any; Always; Two(G(X), M); BadOperand AtModRM), // G_M_xmm
+    read!(Memory Reg::Any, Rm::Any; Always; Own; Two(G(X), M); Bytes(8); Bytes(8)), // G_Mq_xmm
+    refusal!(Either Reg::Any, Rm::Any; Always; Two(G(X), M); BadOperand AtModRM), // G_Mq_xmm
     read!(Memory Reg::Any, Rm::Any; Always; Own; Two(M, G(V)); Of(Size::V); Of(Size::V)), // M_Gv
     refusal!(Either Reg::Any, Rm::Any; Always; Two(M, G(V)); BadOperand AtModRM), // M_Gv
     read!(Memory Reg::Any, Rm::Any; With67; Own; Two(G(D), M); Bytes(64); Bytes(64)), // MOVDIR64B
@@ -187,7 +187,7 @@ pub(crate) const ROWS: &[FormRow; 157] = &[
 ];
 
 /// The first row of each ordinal, and the one after its last. A form that carries a number has eight ordinals.
-pub(crate) const SPANS: &[(u16, u16); 198] = &[
+pub(crate) const SPANS: &[(u16, u16); 199] = &[
     (1, 2), // Zv_R
     (1, 2), // Zv_R
     (1, 2), // Zv_R
@@ -336,40 +336,41 @@ pub(crate) const SPANS: &[(u16, u16); 198] = &[
     (94, 96), // M_G_xmm
     (96, 97), // G_xmm_E_mm
     (97, 98), // G_mm_E_xmm
-    (98, 101), // PMOVX_G_E_xmm
-    (101, 103), // Gd_U_xmm
-    (103, 104), // G_mm_Edq
-    (104, 105), // G_mm_E
-    (105, 106), // G_E_mm_Ib
-    (106, 107), // E_G_q
-    (107, 108), // G_E_q
-    (108, 109), // Edq_G_mm
-    (109, 110), // E_G_mm
-    (110, 111), // G_E_xmm_Ib
-    (111, 113), // Mdq_Gdq
-    (113, 114), // G_mm_Ew_Ib
-    (114, 116), // Rv_Gmm_Ib
-    (116, 118), // G_U_mm
-    (118, 120), // G_Mq_mm
-    (120, 122), // G_mm_U_mm
-    (122, 123), // G_xmm_Edq
+    (98, 99), // PMOVX_G_E_xmm
+    (99, 101), // Gd_U_xmm
+    (101, 102), // G_mm_Edq
+    (102, 103), // G_mm_E
+    (103, 104), // G_E_mm_Ib
+    (104, 105), // E_G_q
+    (105, 106), // G_E_q
+    (106, 107), // Edq_G_mm
+    (107, 108), // E_G_mm
+    (108, 109), // G_E_xmm_Ib
+    (109, 111), // Mdq_Gdq
+    (111, 112), // G_mm_Ew_Ib
+    (112, 114), // Rv_Gmm_Ib
+    (114, 116), // G_U_mm
+    (116, 118), // G_Mq_mm
+    (118, 120), // G_mm_U_mm
+    (120, 121), // G_xmm_Edq
     (0, 1), // ModRM_0x660f78
-    (123, 125), // G_U_xmm
-    (125, 127), // Edq_G_xmm
-    (127, 128), // G_xmm_Ew_Ib
-    (128, 130), // G_U_xmm_Ub
-    (130, 131), // PMOVX_E_G_xmm
-    (131, 133), // MASKMOVDQU
-    (133, 134), // G_Ed_xmm
-    (134, 135), // Ed_G_xmm
+    (121, 123), // G_U_xmm
+    (123, 125), // Edq_G_xmm
+    (125, 126), // G_xmm_Ew_Ib
+    (126, 128), // G_U_xmm_Ub
+    (128, 129), // PMOVX_E_G_xmm
+    (129, 131), // MASKMOVDQU
+    (131, 132), // G_Ed_xmm
+    (132, 133), // Ed_G_xmm
     (0, 1), // ModRM_0xf30f1e
-    (135, 136), // Gv_E_xmm
-    (136, 137), // MOVQ_f30f
-    (137, 139), // G_xmm_U_mm
-    (139, 140), // Gdq_Eq_xmm
+    (133, 134), // Gv_E_xmm
+    (134, 135), // MOVQ_f30f
+    (135, 137), // G_xmm_U_mm
+    (137, 138), // Gdq_Eq_xmm
     (0, 1), // ModRM_0xf20f78
-    (140, 142), // G_mm_U_xmm
-    (142, 144), // G_M_xmm
+    (138, 140), // G_mm_U_xmm
+    (140, 142), // G_M_xmm
+    (142, 144), // G_Mq_xmm
     (144, 146), // M_Gv
     (146, 149), // MOVDIR64B
     (0, 1), // ModRM_0xf30f38d8

@@ -10,9 +10,9 @@ returns-then-allows-clause-read c = λ strict i s.
 
 pub returns-then-allows-clause-found : goal.returns-then-allows-clause-found
 returns-then-allows-clause-found c =
-    let may : allows c.args.encoding.now.after_opcode c.args.found.now.row.opcode c.absent-modrm.result ≡ true = search rules in
+    let may : allows c.args.encoding.now.after_opcode c.absent-modrm.result ≡ true = search rules in
     record {
       sound = c.requires.line.sound;
       accepts = may;
-      describes = λ strict p. c.requires.line.numbered c.args.found.now.row.opcode c.absent-modrm.result p ∙ form_described strict c.args.found.now.row p c.absent-modrm.result c.args.encoding.now c.requires.line.group c.requires.line.describes (allowed_is_described c.args.encoding.now.after_opcode c.args.found.now.row.opcode c.absent-modrm.result may);
+      describes = λ strict p. c.requires.line.numbered c.args.found.now.row.opcode c.absent-modrm.result p ∙ form_described strict c.args.found.now.row p c.absent-modrm.result c.args.encoding.now c.requires.line.group c.requires.line.describes (allowed_is_described c.args.encoding.now.after_opcode c.absent-modrm.result may);
     }

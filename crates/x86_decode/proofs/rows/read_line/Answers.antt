@@ -42,5 +42,5 @@ returns-then-accepts-clause-found g c =
       | in-ByReg w ↦ subst Fits (sym w.opcode-is) (w.chosen.ensures.sound, λ strict p. reg_described strict found.row found.number p m w.chosen.result.0 e.after_opcode w.in-ByReg.group w.chosen.result.1.now w.in-ByReg.is line.group w.chosen.ensures.chooses)
       | in_default-after_opcode w ↦ subst Fits (sym w.opcode-is) (line.sound, λ strict p is. line.numbered found.row.opcode m p ∙ form_described strict found.row p m e line.group line.describes is)
     ] in
-    let accepts : allows c.match-encoding.opcode.1.now.after_opcode c.match-encoding.opcode.0 m ≡ true = search rules in
-    record { sound = fits.0; accepts = accepts; describes = λ strict p. fits.1 strict p (allowed_is_described c.match-encoding.opcode.1.now.after_opcode c.match-encoding.opcode.0 m accepts) }
+    let accepts : allows c.match-encoding.opcode.1.now.after_opcode m ≡ true = search rules in
+    record { sound = fits.0; accepts = accepts; describes = λ strict p. fits.1 strict p (allowed_is_described c.match-encoding.opcode.1.now.after_opcode m accepts) }
