@@ -3,7 +3,7 @@
 
 use std::process::ExitCode;
 use std::{env, io};
-use x86_cli::{Process, finish, listed, words};
+use x86_cli::{Joined, Process, finish, listed, words};
 
 /// The words after the program's name.
 fn arguments(rt: &HostRuntime) -> io::Result<Vec<String>> {
@@ -14,8 +14,11 @@ fn main(rt: HostRuntime) -> ExitCode {
     match arguments(&rt) {
         Err(_) => ExitCode::from(1),
         Ok(words) => {
-            let (mut reader, mut writer) = (rt.reader(), io::writer(&rt));
-            let outcome = listed(words.as_slice(), &Process, &mut reader, &mut writer);
+            let mut streams = Joined {
+                reader: rt.reader(),
+                writer: io::writer(&rt),
+            };
+            let outcome = listed(words.as_slice(), &Process, &mut streams);
             finish(outcome, &Process, &mut rt.stderr())
         }
     }

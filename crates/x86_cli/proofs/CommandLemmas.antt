@@ -4,3 +4,4 @@ pub mod Ends
 pub mod Known
 pub mod Says
 pub mod Leaves
+pub mod Lent

@@ -8,3 +8,4 @@ pub mod Target
 pub mod Live
 pub mod Closes
 pub mod Whole
+pub mod Certain

@@ -1,2 +1,3 @@
 -- Lemmas on what the window shows.
 pub mod Decoded
+pub mod More

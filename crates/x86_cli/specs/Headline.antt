@@ -1,5 +1,5 @@
 -- The headline: what is proved of every byte string under a choice, each fact by a name.
-use Rattle.std.specs.Prelude.{◌≡◌, ◌≢◌, ◌↔◌, ℕ, ◌<◌, ◌^◌, Bool, true, false, List, ◌++◌, length, take, Ok, Err, Some, All}
+use Rattle.std.specs.Prelude.{◌≡◌, ◌≢◌, ◌↔◌, ℕ, ◌<◌, ◌≤◌, ◌^◌, Bool, true, false, List, ◌++◌, length, take, Result, Ok, Err, Some, All}
 use Rattle.x86_fields.specs.declared.errors.DecodeError.{DecodeError}
 use Rattle.x86_fields.specs.declared.errors.DecodeError.TheVariants.{ExhaustedInput}
 use Rattle.x86_fields.specs.declared.raw.Raw.{Raw}
@@ -10,7 +10,7 @@ use Rattle.x86_forms.specs.Rows.{printed_row}
 use Rattle.x86_forms.specs.Words.{rows_of, packed}
 use Rattle.x86_decode.specs.declared.instructions.Instruction.{Instruction}
 use Rattle.x86_decode.specs.Instruction.{length_of}
-use Rattle.x86_decode.specs.Grammar.{IsSentence, IsAnswer}
+use Rattle.x86_decode.specs.Grammar.{IsSentence, IsAnswer, Decides}
 use Rattle.x86_decode.specs.Addresses.{names_modrm, encodings_within, raw_within}
 use Rattle.x86_decode.specs.Answer.{answer_of}
 use Rattle.x86_layout.specs.declared.parts.fields.Fields.{Fields}
@@ -22,7 +22,9 @@ use Rattle.x86_layout.specs.Tightening.Least.{least_length}
 use Rattle.x86_layout.specs.Tightening.Same.{address_at, IsSameButInMemory}
 use Rattle.x86_layout.specs.Tightening.Tighten.{HasOperandForm, IsShortest, IsRelative}
 use Rattle.x86_streams.specs.Text.{Text}
-use Rattle.x86_cli.specs.Listings.Grammar.{IsListing}
+use Rattle.x86_layout.specs.declared.sweeps.cuts.Cut.{Cut}
+use Rattle.x86_layout.specs.Sweeps.Cuts.{cuts_from}
+use Rattle.x86_cli.specs.Listings.Grammar.{AreCuts, IsListing}
 use Rattle.x86_cli.specs.Listings.Listing.{Listing, listing_at}
 
 -- The numbers are bytes.
@@ -37,6 +39,11 @@ module _ (strict : Bool) where
   -- A prefix of the bytes is a sentence, which has this instruction.
   abbrev pub BeginsWith : List ℕ → Instruction → Type 0
   BeginsWith bytes i = (s : List ℕ) × (rest : List ℕ) × (bytes ≡ s ++ rest) × Sentence s i
+
+  -- The bytes are a sentence, or at most fifteen that decide an error.
+  abbrev pub Settles : List ℕ → Result Instruction DecodeError → Type 0
+  Settles s (Ok i) = Sentence s i
+  Settles s (Err e) = (length s ≤ 15) × Decides (rows_of packed) strict s e
 
   -- No prefix of the bytes is a sentence, and this is the error that the written order names.
   abbrev pub IsRefusedBy : List ℕ → DecodeError → Type 0
@@ -58,9 +65,10 @@ module _ (strict : Bool) where
         rows_of packed map column byte ≡ printed_row map column byte
     -- An instruction is answered exactly where the bytes begin with its sentence.
     pub accepted : (bytes : List ℕ) (i : Instruction) → (answer_of strict bytes ≡ Ok i) ↔ BeginsWith bytes i
-    -- Bytes begin with one sentence at most. It fixes the instruction and its length.
-    pub unique : (s rest t more : List ℕ) (i j : Instruction) → s ++ rest ≡ t ++ more →
-        Sentence s i → Sentence t j → (s ≡ t) × (i ≡ j)
+    -- Bytes begin with at most one string that is a sentence or decides an error, never with one of each. It fixes the
+    -- answer, and a sentence its length.
+    pub unique : (s rest t more : List ℕ) (a b : Result Instruction DecodeError) → s ++ rest ≡ t ++ more →
+        Settles s a → Settles t b → (s ≡ t) × (a ≡ b)
     pub fixed : (s : List ℕ) (i : Instruction) → Sentence s i → length_of i ≡ length s
     -- Other bytes have the error that the written order names. But for `ExhaustedInput` an answer stays.
     pub refused : (bytes : List ℕ) (e : DecodeError) → (answer_of strict bytes ≡ Err e) ↔ IsRefusedBy bytes e
@@ -72,6 +80,9 @@ module _ (strict : Bool) where
     -- A listing has a line for each sentence, one after the other, and then what ends it.
     pub listing : (text : ℕ → Instruction → List ℕ → List ℕ) (place : ℕ) (t : Text) (l : Listing) →
         IsListing (rows_of packed) strict text place t.image t.ending l ↔ (l ≡ listing_at strict text place t)
+    -- The cuts of a sweep are its sentences, one after the other, and the bytes at which none begins, with their errors.
+    pub cuts : (place : ℕ) (bytes : List ℕ) (cs : List Cut) →
+        AreCuts (rows_of packed) strict place bytes cs ↔ (cs ≡ cuts_from strict place bytes)
     -- The parts of bytes are the pieces of their sentence, and fields are permitted exactly where they are such parts.
     pub parts : (s rest : List ℕ) (i : Instruction) (is : Sentence s i) →
         HasParts strict s is.reading is.whole (parts_of strict (s ++ rest))

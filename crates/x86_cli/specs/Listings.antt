@@ -6,6 +6,7 @@ pub mod Entry
 pub mod Performs
 pub mod Closes
 pub mod Grammar
+pub mod Certain
 pub mod Sweep
 pub mod Targets
 pub mod Tighten

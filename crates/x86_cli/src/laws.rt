@@ -1,20 +1,23 @@
 //! Laws of listings and runs, and those of the decoder on which the window rests. The laws of hex text, and of what
 //! calls of sources and sinks say, are those of x86_streams.
 
-ghost use Rattle.std.specs.Prelude.{◌≡◌, ◌≢◌, ◌↔◌, ℕ, Bool, IsTrue, true, List, Option};
+ghost use Rattle.std.specs.Prelude.{◌≡◌, ◌≢◌, ◌↔◌, ℕ, ◌+◌, ◌≤◌, Bool, IsTrue, true, false, List, Option, length};
 ghost use Rattle.x86_decode.specs.declared.instructions.Instruction.{Instruction};
 ghost use Rattle.x86_decode.specs.Instruction.{length_of};
 ghost use Rattle.x86_forms.specs.Words.{rows_of, packed};
 ghost use Rattle.x86_layout.specs.Parts.OfBytes.{parts_of};
+ghost use Rattle.x86_layout.specs.Sweeps.Cuts.{cuts_from};
 ghost use Rattle.x86_layout.specs.Tightening.Least.{shortest_length};
+ghost use Rattle.x86_layout.specs.declared.sweeps.cuts.Cut.{Cut};
 ghost use Rattle.x86_text.specs.Lines.{line_of};
 ghost use Rattle.x86_text.specs.Parts.{fields_line};
 ghost use Rattle.x86_cli.specs.DecoderLaws.{DecoderLaws};
 ghost use Rattle.x86_cli.specs.Commands.Command.{goes_past_refusals};
-ghost use Rattle.x86_cli.specs.Commands.Request.{Runs, task_of};
+ghost use Rattle.x86_cli.specs.Commands.Request.{Runs, task_of, up_to_refusal};
 ghost use Rattle.x86_cli.specs.Commands.Complete.{CompletesTexts};
 ghost use Rattle.x86_cli.specs.Commands.Follows.{IsExact, HasReadFault, Completes};
-ghost use Rattle.x86_cli.specs.Listings.Grammar.{IsListing};
+ghost use Rattle.x86_cli.specs.Listings.Certain.{AwaitsMore, BeforeReads, KnowsAll, SentAllCertain};
+ghost use Rattle.x86_cli.specs.Listings.Grammar.{AreCuts, IsListing};
 ghost use Rattle.x86_cli.specs.Headline.{Headline};
 ghost use Rattle.x86_cli.specs.declared.listings.fields.FieldLines.{FieldLines};
 ghost use Rattle.x86_cli.specs.declared.listings.line.Plain.{Plain};
@@ -27,10 +30,13 @@ ghost use Rattle.x86_cli.specs.Listings.Tighten.{least_text};
 ghost use Rattle.x86_streams.specs.Text.{Text};
 ghost use Rattle.x86_cli.specs.Commands.Make.{made_listing};
 ghost use Rattle.x86_cli.specs.Commands.Program.{EndsAt, Has, Leaves};
-ghost use Rattle.x86_cli.specs.Listings.Performs.{Performs};
-ghost use Rattle.x86_streams.specs.Outside.Chain.{stop_of};
+ghost use Rattle.x86_cli.specs.Listings.Performs.{Performs, Task};
+ghost use Rattle.x86_streams.specs.Outside.Record.{IsRecordOf};
+ghost use Rattle.x86_streams.specs.declared.outside.recorder.Record.{Record};
+ghost use Rattle.x86_streams.specs.Outside.Chain.{WriterCalls, received, stop_of};
 ghost use Rattle.x86_cli.specs.Commands.Says.{Makes, Says, Streams, streams_of};
 ghost use Rattle.x86_streams.specs.Outside.FaultCounts.{Rose};
+ghost use Rattle.x86_streams.specs.declared.outside.joined.Joined.{Joined};
 
 pub mod worked;
 
@@ -46,21 +52,25 @@ use crate::listings::tightening::LeastLines;
 use std::io::{Read, Write};
 use x86_decode::laws;
 pub use x86_streams::laws::{first, sequences};
-use x86_streams::{Got, Input, Output, Process, Sink, SinkFailed, Source};
+use x86_streams::{
+    Got, Input, Joined, Output, Process, Record, Recorder, Sink, SinkFailed, Source,
+};
 use x86_text::LINE_ROOM;
 
 /// The headline, under either choice: what is proved of every byte string, of every run over a source and a sink, and of
 /// what the program leaves of a reader and a writer whose bytes are known.
 pub fn headline<S: Source, K: Sink, R: Read, W: Write>()
     ensures bytes { (strict : Bool) → Headline strict }
-    ensures runs { (c : Command) (status : Status) (a b : S) (k l : K)
-        → Runs S.gives K.takes (Request.Reads c) status a b k l
-        → Says status c (streams_of S.left S.faults K.written K.faults a k)
-        (streams_of S.left S.faults K.written K.faults b l) }
-    ensures program { (c : Command) (outcome : Finished) (r r' : R) (w w' : W) →
-        Performs ⟦<Process as Input<R>>⟧.reads ⟦<Process as Output<W>>⟧.writes
-        ⟦<Process as Output<W>>⟧.flushes true (task_of (Request.Reads c)) outcome r r' w w'
-        → Leaves outcome.status c (R.remaining r) (W.contents w) (W.contents w') }
+    ensures runs { (c : Command) (status : Status) (a b : Joined S K)
+        → Runs S.gives K.takes (Request.Reads c) status a b
+        → Says status c (streams_of S.left S.faults K.written K.faults a)
+        (streams_of S.left S.faults K.written K.faults b) }
+    ensures program { (c : Command) (outcome : Finished) (s t : Joined R W) →
+        Performs ⟦<Process as Input<Joined<R, W>>>⟧.reads
+        ⟦<Process as Output<Joined<R, W>>>⟧.writes
+        ⟦<Process as Output<Joined<R, W>>>⟧.flushes true (task_of (Request.Reads c)) outcome s t
+        → Leaves outcome.status c (R.remaining s.reader) (W.contents s.writer)
+        (W.contents t.writer) }
 {
     headline_of_bytes();
     decoder_laws();
@@ -74,6 +84,7 @@ fn headline_of_bytes()
     laws::answer_is();
     laws::one_answer();
     laws::answers_of_more();
+    laws::decided_bytes_are_refused();
     x86_forms::laws::printed_words_are_the_printed_rows();
     x86_layout::laws::memory_operands_have_their_address();
     x86_layout::laws::parts_are_those_of_the_bytes();
@@ -117,15 +128,45 @@ pub fn statuses()
 {}
 
 /// The listing of a text is the one that the grammar has: a line for each sentence, one after the other, and then what
-/// ends it.
+/// ends it. The cuts of bytes are the grammar's too: each sentence, and each byte at which none begins.
 pub fn by_grammar()
-    ensures { (strict : Bool) (text : ℕ → Instruction → List ℕ → List ℕ)
+    ensures listing { (strict : Bool) (text : ℕ → Instruction → List ℕ → List ℕ)
         (place : ℕ) (t : Text) (l : Listing)
         → IsListing (rows_of packed) strict text place t.image t.ending l
         ↔ (l ≡ listing_at strict text place t) }
+    ensures cuts { (strict : Bool) (place : ℕ) (bytes : List ℕ) (cs : List Cut)
+        → AreCuts (rows_of packed) strict place bytes cs ↔ (cs ≡ cuts_from strict place bytes) }
 {
     laws::lengths();
     laws::answer_is();
+}
+
+/// What is known of a text before a read is all that is certain: the listing of every text that goes on so begins with these
+/// lines, and with no more. So it is up to a refusal, and of `sweep` where at least thirty bytes of text may still come.
+/// Before each read of a command the listing wasn't decided, and what had been written was flushed; of all but `targets`,
+/// which lists once the text has ended, that was all that is certain.
+pub fn known_is_all<E, O: Input<E> + Output<E>>()
+    ensures up_to_refusal { (strict : Bool) (text : ℕ → Instruction → List ℕ → List ℕ)
+        (bytes : List ℕ) → KnowsAll (up_to_refusal strict text) bytes }
+    ensures sweep { (bytes : List ℕ) → length bytes + 30 ≤ 67108864
+        → KnowsAll (task_of (Request.Reads Command.Sweep)) bytes }
+    ensures awaits { (c : Command) (outcome : Finished) (s t : E)
+        → (h : Performs O.reads O.writes O.flushes O.gathers (task_of (Request.Reads c)) outcome
+        s t)
+        → BeforeReads (AwaitsMore (task_of (Request.Reads c))) h.calls }
+    ensures listed { (c : Command) (outcome : Finished) (s t : E)
+        → goes_past_refusals c ≡ false
+        → (h : Performs O.reads O.writes O.flushes O.gathers (task_of (Request.Reads c)) outcome
+        s t)
+        → BeforeReads (SentAllCertain (task_of (Request.Reads c))) h.calls }
+    ensures swept { (outcome : Finished) (s t : E)
+        → (h : Performs O.reads O.writes O.flushes O.gathers
+        (task_of (Request.Reads Command.Sweep)) outcome s t)
+        → BeforeReads (λ cs. length (received cs) + 30 ≤ 67108864
+        → SentAllCertain (task_of (Request.Reads Command.Sweep)) cs) h.calls }
+{
+    decoder_laws();
+    laws::lengths();
 }
 
 /// What the window needs of the decoder, under either choice.
@@ -147,11 +188,17 @@ pub fn values_are_equal()
     x86_streams::laws::values_are_equal();
 }
 
-/// What a run of `make` says, where the sink's bytes are known.
-pub fn made<S: Source, K: Sink>()
-    ensures { (n : ℕ) (status : Status) (a b : S) (k l : K)
-        → Runs S.gives K.takes (Request.Makes n) status a b k l
-        → Makes n status (K.written k) (K.written l) (K.faults k) (K.faults l) }
+/// What a run of `make` says, where the sink's bytes are known. It makes no call but writes and flushes, so it leaves a
+/// source, and a reader, as they were.
+pub fn made<E, O: Input<E> + Output<E>, S: Source, K: Sink>()
+    ensures says { (n : ℕ) (status : Status) (a b : Joined S K)
+        → Runs S.gives K.takes (Request.Makes n) status a b
+        → (b.reader ≡ a.reader) × Makes n status (K.written a.writer) (K.written b.writer)
+        (K.faults a.writer) (K.faults b.writer) }
+    ensures unread { (n : ℕ) (outcome : Finished) (s t : E)
+        → (h : Performs O.reads O.writes O.flushes O.gathers (task_of (Request.Makes n)) outcome
+        s t)
+        → WriterCalls O.writes O.flushes h.calls s t }
 {}
 
 /// Where the source's bytes are known and neither count of faults rose, a run ends with a status exactly where the
@@ -179,8 +226,8 @@ pub fn write_faults()
 
 /// `sweep` and `targets` are never refused.
 pub fn unrefused<S: Source, K: Sink>()
-    ensures { (c : Command) (status : Status) (a b : S) (k l : K)
-        → Runs S.gives K.takes (Request.Reads c) status a b k l
+    ensures { (c : Command) (status : Status) (a b : Joined S K)
+        → Runs S.gives K.takes (Request.Reads c) status a b
         → IsTrue (goes_past_refusals c) → status ≢ Status.Refused }
 {}
 
@@ -198,27 +245,41 @@ pub fn complete()
 /// How the reads of a command ended: `Done` comes only after a read that returned no byte, `ReadFault` only where the
 /// last read answered an error, `Refused`, `BadText` and `TooLarge` only where none did. So it is of the calls of a
 /// source.
-pub fn ends<R, W, O: Input<R> + Output<W>, S: Source, K: Sink>()
-    ensures listed { (c : Command) (outcome : Finished) (r r' : R) (w w' : W)
+pub fn ends<E, O: Input<E> + Output<E>, S: Source, K: Sink>()
+    ensures listed { (c : Command) (outcome : Finished) (s t : E)
         → (h : Performs O.reads O.writes O.flushes O.gathers (task_of (Request.Reads c)) outcome
-        r r' w w')
+        s t)
         → EndsAt outcome.status (stop_of h.calls) }
-    ensures run { (c : Command) (status : Status) (a b : S) (k l : K)
-        → (h : Runs S.gives K.takes (Request.Reads c) status a b k l)
+    ensures run { (c : Command) (status : Status) (a b : Joined S K)
+        → (h : Runs S.gives K.takes (Request.Reads c) status a b)
         → EndsAt status (stop_of h.1.calls) }
 {}
+
+/// Over a record of all calls, those that `Performs` speaks of are the calls that were made, and no others.
+pub fn recorded<E, P: Input<E> + Output<E>, const CALLS: usize, const BYTES: usize>()
+    ensures { (task : Task) (outcome : Finished) (s t : Record E CALLS BYTES)
+        → (h : Performs ⟦<Recorder<P> as Input<Record<E, CALLS, BYTES>>>⟧.reads
+        ⟦<Recorder<P> as Output<Record<E, CALLS, BYTES>>>⟧.writes
+        ⟦<Recorder<P> as Output<Record<E, CALLS, BYTES>>>⟧.flushes P.gathers task outcome s t)
+        → IsRecordOf h.calls s t }
+{
+    x86_streams::laws::recorded::<E, P, CALLS, BYTES>();
+}
 
 /// What `listed` leaves, where the bytes that the reader has left and those that the writer has are known: the
 /// writer has what it had and then the listing of these bytes, or a prefix of that where a write failed.
 pub fn program<R: Read, W: Write>()
-    ensures lists { (c : Command) (outcome : Finished) (r r' : R) (w w' : W) →
-        Performs ⟦<Process as Input<R>>⟧.reads ⟦<Process as Output<W>>⟧.writes
-        ⟦<Process as Output<W>>⟧.flushes true (task_of (Request.Reads c)) outcome r r' w w'
-        → Leaves outcome.status c (R.remaining r) (W.contents w) (W.contents w') }
-    ensures made { (n : ℕ) (outcome : Finished) (r r' : R) (w w' : W) →
-        Performs ⟦<Process as Input<R>>⟧.reads ⟦<Process as Output<W>>⟧.writes
-        ⟦<Process as Output<W>>⟧.flushes true (task_of (Request.Makes n)) outcome r r' w w'
-        → Has outcome.status (made_listing n) (W.contents w) (W.contents w') }
+    ensures lists { (c : Command) (outcome : Finished) (s t : Joined R W) →
+        Performs ⟦<Process as Input<Joined<R, W>>>⟧.reads
+        ⟦<Process as Output<Joined<R, W>>>⟧.writes
+        ⟦<Process as Output<Joined<R, W>>>⟧.flushes true (task_of (Request.Reads c)) outcome s t
+        → Leaves outcome.status c (R.remaining s.reader) (W.contents s.writer)
+        (W.contents t.writer) }
+    ensures made { (n : ℕ) (outcome : Finished) (s t : Joined R W) →
+        Performs ⟦<Process as Input<Joined<R, W>>>⟧.reads
+        ⟦<Process as Output<Joined<R, W>>>⟧.writes
+        ⟦<Process as Output<Joined<R, W>>>⟧.flushes true (task_of (Request.Makes n)) outcome s t
+        → Has outcome.status (made_listing n) (W.contents s.writer) (W.contents t.writer) }
 {
     decoder_laws();
 }

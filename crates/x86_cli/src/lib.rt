@@ -1,16 +1,19 @@
 //! The program's parts: hex text in, listings out, over any source and sink, and over any reader and writer.
 //! Sources, sinks and the reader of hex text are those of x86_streams.
 //!
-//! `run` obeys words over a `Source` and a `Sink`, and `listed` over a reader and a writer of std:
+//! `run` obeys words over a `Source` and a `Sink`, and `listed` over all that is read from and written to, as a reader
+//! and a writer of std:
 //!
 //! ```
-//! let mut source = SoundSource::new(b"48 01 d8");
-//! let mut sink = ArraySink::<64>::new(u64::MAX);
-//! run(words, &mut source, &mut sink)   // Status::Done, where `words` is `["list"]`
-//! sink.written()                       // b"0 3 ADD rax, rbx m8\n"
+//! let mut streams = Joined {
+//!     reader: SoundSource::new(b"48 01 d8"),
+//!     writer: ArraySink::<64>::new(u64::MAX),
+//! };
+//! run(words, &mut streams)   // Status::Done, where `words` is `["list"]`
+//! streams.writer.written()   // b"0 3 ADD rax, rbx m8\n"
 //! ```
 //!
-//! `Program::run` runs a program of yours over a reader and a writer, as x86_show does.
+//! `Program::run` runs a program of yours over such streams, as x86_show does.
 #![tactic(auto)]
 
 pub mod commands;
@@ -25,7 +28,7 @@ pub use commands::program::{Program, listed, run};
 pub use commands::request::{Request, USAGE};
 pub use listings::status::{Finished, Status};
 pub use x86_streams::{
-    ArraySink, Got, NullSink, OneByOne, Process, Sink, SinkFailed, SliceSource, SoundSource,
-    Source, StdSink, StdSource, outside,
+    ArraySink, Event, Got, Joined, NullSink, OneByOne, Process, Record, Recorder, Sink, SinkFailed,
+    SliceSource, SoundSource, Source, StdSink, StdSource, outside,
 };
 pub use x86_text::{fields_line, line_of, refusal_of};

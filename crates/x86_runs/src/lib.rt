@@ -11,6 +11,8 @@ mod process;
 #[cfg(test)]
 mod program;
 #[cfg(test)]
+mod records;
+#[cfg(test)]
 mod run_table;
 #[cfg(test)]
 mod streams;

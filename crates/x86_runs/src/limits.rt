@@ -9,7 +9,9 @@ use std::alloc::Global;
 use std::io;
 use std::io::{Read, Write};
 use x86_cli::Status::{Done, TooLarge};
-use x86_cli::{Got, Process, Sink, SinkFailed, Source, Status, TARGETS_MAX, TEXT_MAX, listed};
+use x86_cli::{
+    Got, Joined, Process, Sink, SinkFailed, Source, Status, TARGETS_MAX, TEXT_MAX, listed,
+};
 
 /// So many times a unit, then a tail.
 #[derive(Drop)]
@@ -172,13 +174,14 @@ fn is_run(alloc: Global, run: Run) -> bool {
 
 /// Whether a run is so, over a reader and a writer.
 fn is_listed(alloc: Global, run: Run) -> bool {
-    let (mut reader, mut writer) = ends_of(run);
+    let (reader, writer) = ends_of(run);
     let (command, _, pieces, _, status) = run;
     let Ok(words) = arguments(alloc, command) else {
         return false;
     };
-    let outcome = listed(words.as_slice(), &Process, &mut reader, &mut writer);
-    outcome.status == status && writer.pieces == pieces && writer.is_wanted
+    let mut streams = Joined { reader, writer };
+    let outcome = listed(words.as_slice(), &Process, &mut streams);
+    outcome.status == status && streams.writer.pieces == pieces && streams.writer.is_wanted
 }
 
 #[test]

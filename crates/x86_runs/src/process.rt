@@ -20,6 +20,8 @@ fn has_words(alloc: Global, given: &str, wanted: &str) -> bool {
 fn words_are_all_arguments_but_the_first(rt: HostRuntime) {
     assert!(&rt; has_words(rt.alloc(), "x86 list --strict", "list --strict"));
     assert!(&rt; has_words(rt.alloc(), "", ""));
+    let given = "x86 a b c d e f g h i j k l m n o p q r s t";
+    assert!(&rt; has_words(rt.alloc(), given, "a b c d e f g h i j k l m n o p q r s t"));
 }
 
 /// Whether the process ends with this code, and this is in its third stream. The output may be gone.

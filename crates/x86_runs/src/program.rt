@@ -1,38 +1,10 @@
 //! The whole program, over readers and writers that are slow, that are short, and that fail.
 
-use crate::support::{ShortReader, arguments, shows};
+use crate::support::{ShortReader, ShortWriter, arguments, shows};
 use std::alloc::{AllocError, Global};
 use std::io;
 use std::io::{ErrorKind, Read, Write};
-use x86_cli::{Finished, Process, Status, listed};
-
-/// Keeps what it takes, at most so many bytes a write. Each third write is interrupted, and a flush fails if it is to.
-#[derive(Drop)]
-struct ShortWriter {
-    kept: Vec<u8>,
-    most: usize,
-    write: u64,
-    flushes: bool,
-}
-
-impl Write for ShortWriter {
-    fn write(&mut self, buf: &[u8]) -> io::Result<usize> {
-        self.write = self.write.saturating_add(1);
-        if self.write % 3 == 0 {
-            return Err(io::Error::from(ErrorKind::Interrupted));
-        }
-        let count = buf.len().min(self.most);
-        self.kept.write(&buf[..count])
-    }
-
-    fn flush(&mut self) -> io::Result<()> {
-        if self.flushes {
-            Ok(())
-        } else {
-            Err(io::Error::from(ErrorKind::Other))
-        }
-    }
-}
+use x86_cli::{Finished, Joined, Process, Status, listed};
 
 /// How the program ends with `list` over these.
 fn program_ending<R: Read, W: Write>(
@@ -41,7 +13,8 @@ fn program_ending<R: Read, W: Write>(
     writer: &mut W,
 ) -> Result<Finished, AllocError> {
     let arguments = arguments(alloc, "list")?;
-    Ok(listed(arguments.as_slice(), &Process, reader, writer))
+    let mut streams = Joined { reader, writer };
+    Ok(listed(arguments.as_slice(), &Process, &mut streams))
 }
 
 /// A long text, its listing, and the place after it.
@@ -299,8 +272,11 @@ fn flushes_that_fail(rt: HostRuntime) {
 #[test]
 fn without_words_nothing_is_read(rt: HostRuntime) {
     let text: &[u8] = b"90";
-    let (mut reader, mut written) = (text, Vec::new(rt.alloc()));
-    let end = listed(&[], &Process, &mut reader, &mut written);
-    assert!(&rt; end.status == Status::Usage && written.as_slice().is_empty());
-    assert!(&rt; reader == text);
+    let mut streams = Joined {
+        reader: text,
+        writer: Vec::new(rt.alloc()),
+    };
+    let end = listed(&[], &Process, &mut streams);
+    assert!(&rt; end.status == Status::Usage && streams.writer.as_slice().is_empty());
+    assert!(&rt; streams.reader == text);
 }

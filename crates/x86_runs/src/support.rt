@@ -2,7 +2,7 @@
 
 use std::alloc::{AllocError, Global};
 use std::io;
-use std::io::{ErrorKind, Read};
+use std::io::{ErrorKind, Read, Write};
 use x86_cli::{Sink, Source, Status, run};
 
 fn push_word(arguments: &mut Vec<String>, alloc: Global, word: &str) -> Result<(), AllocError> {
@@ -69,5 +69,33 @@ impl Read for ShortReader<'_> {
         buf[..count].copy_from_slice(&self.bytes[..count]);
         self.bytes = &self.bytes[count..];
         Ok(count)
+    }
+}
+
+/// Keeps what it takes, at most so many bytes a write. Each third write is interrupted, and a flush fails if it is to.
+#[derive(Drop)]
+pub struct ShortWriter {
+    pub kept: Vec<u8>,
+    pub most: usize,
+    pub write: u64,
+    pub flushes: bool,
+}
+
+impl Write for ShortWriter {
+    fn write(&mut self, buf: &[u8]) -> io::Result<usize> {
+        self.write = self.write.saturating_add(1);
+        if self.write % 3 == 0 {
+            return Err(io::Error::from(ErrorKind::Interrupted));
+        }
+        let count = buf.len().min(self.most);
+        self.kept.write(&buf[..count])
+    }
+
+    fn flush(&mut self) -> io::Result<()> {
+        if self.flushes {
+            Ok(())
+        } else {
+            Err(io::Error::from(ErrorKind::Other))
+        }
     }
 }

@@ -1,2 +1,3 @@
 -- Lemmas on readers and writers.
 pub mod Calls
+pub mod Record

@@ -5,5 +5,8 @@ pub mod Stop
 pub mod ByNumber
 pub mod Sink
 pub mod Seen
+pub mod Joined
 pub mod Chain
+pub mod Record
+pub mod Order
 pub mod OneByOne

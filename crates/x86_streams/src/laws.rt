@@ -1,18 +1,25 @@
 //! Laws of hex text, and of what calls of sources, sinks, readers and writers say.
 
-ghost use Rattle.std.specs.Prelude.{◌≡◌, ◌↔◌, ℕ, IsTrue, List, Some, None, Result, false, true, ⊤};
+ghost use Rattle.std.specs.Prelude.{◌≡◌, ◌↔◌, ℕ, IsTrue, List, [], ◌∷◌, Some, None, Result, false, true, ⊤};
 ghost use Rattle.std.specs.Io.KnownBytes.{Keeps, ReadConsumes, WriteAppends, prepend_known};
+ghost use Rattle.std.specs.Borrow.{MutBor};
 ghost use Rattle.std.specs.declared.io.Error.{Error};
+ghost use Rattle.x86_streams.specs.declared.outside.joined.Joined.{Joined};
+ghost use Rattle.x86_streams.specs.Outside.Joined.{FlushesWriter, ReadsReader, WritesWriter};
 ghost use Rattle.x86_streams.specs.Outside.ByNumber.{ByNumber, PutByNumber};
 ghost use Rattle.x86_streams.specs.Outside.OneByOne.{HoldsNothing, PutsPiece, ReadsByte};
 ghost use Rattle.x86_streams.specs.Outside.Seen.{slice_call, slice_fails, array_call, array_fails, sink_writer, source_reader, source_bytes};
 ghost use Rattle.x86_streams.specs.Outside.Sink.{ReportsPut};
-ghost use Rattle.x86_streams.specs.Outside.Source.{ReportsGot};
+ghost use Rattle.x86_streams.specs.Outside.Chain.{Call, Read, Flush, Calls, PutsByWrites};
+ghost use Rattle.x86_streams.specs.Outside.Order.{ListsFlush, ListsRead, ListsWrite};
+ghost use Rattle.x86_streams.specs.Outside.Record.{IsRecordOf};
+ghost use Rattle.x86_streams.specs.declared.outside.recorder.Record.{Record};
+ghost use Rattle.x86_streams.specs.Outside.Source.{ReportsGot, ReturnsNext};
 ghost use Rattle.x86_streams.specs.Text.Pairs.{SequencesAreSound, BadIsFirst};
 
 use crate::{
-    ArraySink, Got, Input, NullSink, OneByOne, Output, Process, Sink, SinkFailed, SliceSource,
-    SoundSource, Source, StdSink, StdSource,
+    ArraySink, Got, Input, Joined, NullSink, OneByOne, Output, Process, Record, Recorder, Sink,
+    SinkFailed, SliceSource, SoundSource, Source, StdSink, StdSource,
 };
 use std::io::{Read, Write};
 
@@ -49,13 +56,18 @@ pub fn sources_of_slices<'a>()
         ReportsGot g (Some s.bytes.now) (Some t.bytes.now) 0 0 }
 {}
 
-/// The source over a reader has what it holds of the bytes that were read, and then those of the reader.
+/// The source over a reader has what it holds of the bytes that were read, and then those of the reader. It returns the
+/// first that it holds, and reads where it holds none.
 pub fn sources_of_readers<R: Read + Drop>()
-    ensures { (s : StdSource R _) → ⟦<StdSource<R> as Source>⟧.left s
+    ensures left { (s : StdSource R _) → ⟦<StdSource<R> as Source>⟧.left s
         ≡ prepend_known (source_bytes s) (R.remaining (source_reader s)) }
+    ensures calls { (s t : StdSource R _) (g : Got) → ⟦<StdSource<R> as Source>⟧.gives s g t
+        → ReturnsNext ⟦<Process as Input<R>>⟧.reads (source_bytes s) g (source_bytes t)
+        (source_reader s) (source_reader t) }
 {}
 
-/// The sink over a writer has what the writer has, and a put appends its piece to that or fails.
+/// The sink over a writer has what the writer has. A put writes its piece until all is written or a write fails: it appends
+/// it to that or fails.
 pub fn sinks_of_writers<W: Write + Drop>()
     ensures bytes { (k : StdSink W) →
         ⟦<StdSink<W> as Sink>⟧.written k ≡ W.contents (sink_writer k) }
@@ -63,6 +75,10 @@ pub fn sinks_of_writers<W: Write + Drop>()
         ⟦<StdSink<W> as Sink>⟧.takes k piece r l →
         ReportsPut r piece (W.contents (sink_writer k)) (W.contents (sink_writer l))
         (⟦<StdSink<W> as Sink>⟧.faults k) (⟦<StdSink<W> as Sink>⟧.faults l) }
+    ensures calls { (k l : StdSink W) (piece : List ℕ) (r : Result ⊤ SinkFailed) →
+        ⟦<StdSink<W> as Sink>⟧.takes k piece r l →
+        PutsByWrites ⟦<Process as Output<W>>⟧.writes ⟦<Process as Output<W>>⟧.flushes r piece
+        (sink_writer k) (sink_writer l) }
 {}
 
 /// A read of the process takes the next of the bytes that std's contract says are left.
@@ -92,6 +108,61 @@ pub fn one_by_one<S: Source, K: Sink>()
     ensures flushes { (k l : K) (r : Result ⊤ Error) →
         ⟦<OneByOne as Output<K>>⟧.flushes k r l → HoldsNothing k r l }
     ensures gathers { ⟦<OneByOne as Output<K>>⟧.gathers ≡ false }
+{}
+
+/// A call of a reader and a writer that are joined is one of that which it is of, and leaves the other.
+pub fn joined<R: Read, W: Write, S: Source, K: Sink>()
+    ensures reads { (s t : Joined R W) (buffer : List ℕ) (r : Result ℕ Error) →
+        ⟦<Process as Input<Joined<R, W>>>⟧.reads s buffer r t
+        → ReadsReader ⟦<Process as Input<R>>⟧.reads s buffer r t }
+    ensures writes { (s t : Joined R W) (bytes : List ℕ) (r : Result ℕ Error) →
+        ⟦<Process as Output<Joined<R, W>>>⟧.writes s bytes r t
+        → WritesWriter ⟦<Process as Output<W>>⟧.writes s bytes r t }
+    ensures flushes { (s t : Joined R W) (r : Result ⊤ Error) →
+        ⟦<Process as Output<Joined<R, W>>>⟧.flushes s r t
+        → FlushesWriter ⟦<Process as Output<W>>⟧.flushes s r t }
+    ensures gathers { ⟦<Process as Output<Joined<R, W>>>⟧.gathers ≡ true }
+    ensures gives { (s t : Joined S K) (buffer : List ℕ) (r : Result ℕ Error) →
+        ⟦<OneByOne as Input<Joined<S, K>>>⟧.reads s buffer r t
+        → ReadsReader (ReadsByte S.gives) s buffer r t }
+    ensures takes { (s t : Joined S K) (bytes : List ℕ) (r : Result ℕ Error) →
+        ⟦<OneByOne as Output<Joined<S, K>>>⟧.writes s bytes r t
+        → WritesWriter (PutsPiece K.takes) s bytes r t }
+    ensures holds_nothing { (s t : Joined S K) (r : Result ⊤ Error) →
+        ⟦<OneByOne as Output<Joined<S, K>>>⟧.flushes s r t
+        → FlushesWriter HoldsNothing s r t }
+    ensures at_once { ⟦<OneByOne as Output<Joined<S, K>>>⟧.gathers ≡ false }
+{}
+
+/// Over a record, the calls of a chain are those that were made, in their order, failed and interrupted ones too.
+pub fn recorded<E, P: Input<E> + Output<E>, const CALLS: usize, const BYTES: usize>()
+    ensures calls { (cs : List Call) (s t : Record E CALLS BYTES) →
+        Calls ⟦<Recorder<P> as Input<Record<E, CALLS, BYTES>>>⟧.reads
+        ⟦<Recorder<P> as Output<Record<E, CALLS, BYTES>>>⟧.writes
+        ⟦<Recorder<P> as Output<Record<E, CALLS, BYTES>>>⟧.flushes cs s t
+        → IsRecordOf cs s t }
+    ensures gathers { ⟦<Recorder<P> as Output<Record<E, CALLS, BYTES>>>⟧.gathers ≡ P.gathers }
+{}
+
+/// A source and a sink that are lent have what they have, and their calls are those of them.
+pub fn lent<'a, S: Source, K: Sink>()
+    ensures left { (s : MutBor S) → ⟦<&'a mut S as Source>⟧.left s ≡ S.left s.now }
+    ensures source_faults { (s : MutBor S) → ⟦<&'a mut S as Source>⟧.faults s ≡ S.faults s.now }
+    ensures gives { (s t : MutBor S) (g : Got) → ⟦<&'a mut S as Source>⟧.gives s g t
+        → S.gives s.now g t.now × (t.ghost_name ≡ s.ghost_name) }
+    ensures written { (k : MutBor K) → ⟦<&'a mut K as Sink>⟧.written k ≡ K.written k.now }
+    ensures sink_faults { (k : MutBor K) → ⟦<&'a mut K as Sink>⟧.faults k ≡ K.faults k.now }
+    ensures takes { (k l : MutBor K) (piece : List ℕ) (r : Result ⊤ SinkFailed)
+        → ⟦<&'a mut K as Sink>⟧.takes k piece r l
+        → K.takes k.now piece r l.now × (l.ghost_name ≡ k.ghost_name) }
+{}
+
+/// Calls have one order: where a flush and then a read led from one state to another, a read and then a flush need not.
+pub fn calls_have_an_order()
+    ensures flushed_first { Calls ListsRead ListsWrite ListsFlush
+        (Read [] (Ok 0) ∷ Flush (Ok tt) ∷ []) [] (1 ∷ 3 ∷ []) }
+    ensures not_read_first { Calls ListsRead ListsWrite ListsFlush
+        (Flush (Ok tt) ∷ Read [] (Ok 0) ∷ []) [] (1 ∷ 3 ∷ []) → ⊥ }
 {}
 
 /// The bytes of a `NullSink` aren't known, and none of its puts fails.

@@ -72,10 +72,29 @@ fn is_shown<T: Display>(alloc: Global, value: &T, text: &str) -> bool {
     }
 }
 
+/// Each error with its text.
+const REFUSALS: &[(DecodeError, &str)] = &[
+    (DecodeError::ExhaustedInput, "exhausted input"),
+    (DecodeError::InvalidOpcode, "invalid opcode"),
+    (DecodeError::InvalidOperand, "invalid operand"),
+    (DecodeError::InvalidPrefixes, "invalid prefixes"),
+    (DecodeError::TooLong, "too long"),
+    (DecodeError::IncompleteDecoder, "the decoder is incomplete"),
+];
+
 #[test]
 fn refusals_by_their_descriptions(rt: HostRuntime) {
-    let error = DecodeError::IncompleteDecoder;
-    assert!(&rt; is_shown(rt.alloc(), &error, "the decoder is incomplete"));
+    for (error, text) in REFUSALS {
+        assert!(&rt; is_shown(rt.alloc(), error, text));
+    }
+}
+
+#[test]
+fn a_line_of_191_bytes(rt: HostRuntime) {
+    let bytes = [b'7'; 191];
+    let mut line = Line::new();
+    line.extend(&bytes);
+    assert!(&rt; is_shown(rt.alloc(), &line, std::str::from_utf8(&bytes).unwrap_or("")));
 }
 
 #[test]

@@ -15,7 +15,7 @@ use Rattle.x86_cli.proofs.ListingLemmas.Listing.{listing-whole}
 -- a listing that isn't refused ends as its text
 
 module _ (strict : Bool) (text : ℕ → Instruction → List ℕ → List ℕ) (e : Ending) where
-  listing_end : (n k : ℕ) (xs : List ℕ) → (listing_from strict text n k xs e).status ≢ outcome.Refused → (listing_from strict text n k xs e).status ≡ (at_end e).status
+  pub listing_end : (n k : ℕ) (xs : List ℕ) → (listing_from strict text n k xs e).status ≢ outcome.Refused → (listing_from strict text n k xs e).status ≡ (at_end e).status
   unfolding listing_from decoded_of
   listing_end n k [] = λ _. refl
   listing_end n zero (x ∷ xs) = let h = λ (k : ℕ). listing_end (n + 1) k xs in grind arith

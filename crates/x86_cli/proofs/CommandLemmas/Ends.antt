@@ -1,6 +1,6 @@
 -- How the reads of a program ended, by its status.
-use Rattle.std.proofs.Common.{◌≡◌, ◌≢◌, ℕ, List, [], ◌∷◌, ◌++◌, Option, Some, Result, arith, ◌∙◌, sym, append-nil}
-use Rattle.x86_cli.proofs.ListingLemmas.Vocabulary.{Bool, IsTrue, ⊤, Error, Command, Finished, Status, Call, Read, Write, Flush, received, stop_of, Stop, End, Failed}
+use Rattle.std.proofs.Common.{◌≡◌, ◌≢◌, ℕ, List, [], ◌∷◌, ◌++◌, Option, Some, Result, arith, ap, ◌∙◌, sym, append-nil}
+use Rattle.x86_cli.proofs.ListingLemmas.Vocabulary.{Bool, IsTrue, ⊤, Error, Command, Finished, Status, Call, Calls, WriterCalls, Read, Write, Flush, Listing, made_listing, received, stop_of, Stop, End, Failed}
 use Rattle.x86_cli.proofs.ListingLemmas.Vocabulary.{Text, text_of, EndsAt, task_of, listing_for, known_for, max_of, taken_listing, ByRule, IsEnd, Performs, Task}
 use Rattle.x86_cli.specs.declared.commands.request.Request.{Request}
 use Rattle.x86_streams.specs.Text.Reading.{MayCome}
@@ -21,8 +21,8 @@ module _ (c : Command) (bytes : List ℕ) (stop : Option Stop) (failed : stop �
   run_ends Status.ReadFault ends = let is = ends [] End in let read = command_read c (max_of c) (bytes ++ []) in grind arith
   run_ends status ends = let one = some_stop stop in let is = ends [] one.0 one.1 in let used = (command_status c (text_of (max_of c) (bytes ++ []) one.0)).0 in grind (arith, append-nil {A = ℕ})
 
-module _ {R W : Type 0} (reads : R → List ℕ → Result ℕ Error → R → Type 0) (writes : W → List ℕ → Result ℕ Error → W → Type 0) (flushes : W → Result ⊤ Error → W → Type 0)
-    (gathers : Bool) (c : Command) (outcome : Finished) (r r' : R) (w w' : W) (h : Performs reads writes flushes gathers (task_of (Request.Reads c)) outcome r r' w w') where
+module _ {O : Type 0} (reads : O → List ℕ → Result ℕ Error → O → Type 0) (writes : O → List ℕ → Result ℕ Error → O → Type 0) (flushes : O → Result ⊤ Error → O → Type 0)
+    (gathers : Bool) (c : Command) (outcome : Finished) (o o' : O) (h : Performs reads writes flushes gathers (task_of (Request.Reads c)) outcome o o') where
   pub ends_at : EndsAt outcome.status (stop_of h.calls)
   ends_at = run_ends c (received h.calls) (stop_of h.calls) (fault_listed c h.calls h.rule) outcome.status (λ xs s may ne. sym ((h.lists xs s may).all ne).1)
 
@@ -33,9 +33,9 @@ module _ {R W : Type 0} (reads : R → List ℕ → Result ℕ Error → R → T
       let ends = sym ((h.lists [] one.0 one.1).all (λ f. let g : Status.Refused ≡ Status.WriteFault = sym e ∙ f in cc)).1 ∙ e in grind arith
 
 -- What ends with a listing's status is no mistake of usage.
-pub performs_used : {R W : Type 0} (reads : R → List ℕ → Result ℕ Error → R → Type 0) (writes : W → List ℕ → Result ℕ Error → W → Type 0) (flushes : W → Result ⊤ Error → W → Type 0) (gathers : Bool) (task : Task) (outcome : Finished) (r r' : R) (w w' : W) →
-    ((text : Text) → IsEnd (task.lists text).status) → Performs reads writes flushes gathers task outcome r r' w w' → outcome.status ≢ Status.Usage
-performs_used reads writes flushes gathers task outcome r r' w w' ends h e =
+pub performs_used : {O : Type 0} (reads : O → List ℕ → Result ℕ Error → O → Type 0) (writes : O → List ℕ → Result ℕ Error → O → Type 0) (flushes : O → Result ⊤ Error → O → Type 0) (gathers : Bool) (task : Task) (outcome : Finished) (o o' : O) →
+    ((text : Text) → IsEnd (task.lists text).status) → Performs reads writes flushes gathers task outcome o o' → outcome.status ≢ Status.Usage
+performs_used reads writes flushes gathers task outcome o o' ends h e =
     let one = some_stop (stop_of h.calls) in
     let same = ((h.lists [] one.0 one.1).all (λ f. let g : Status.Usage ≡ Status.WriteFault = sym e ∙ f in absurd (cc))).1 in
     (ends _).0 (sym same ∙ e)
@@ -43,3 +43,14 @@ performs_used reads writes flushes gathers task outcome r r' w w' ends h e =
 pub task_ends : (request : Request) (t : Text) → IsEnd ((task_of request).lists t).status
 task_ends (Request.Reads c) t = command_status c t
 task_ends (Request.Makes n) t = (λ e. cc, λ e. cc)
+
+-- What lists the same whatever is read, and no read fault, reads nothing.
+module _ {O : Type 0} (reads writes : O → List ℕ → Result ℕ Error → O → Type 0) (flushes : O → Result ⊤ Error → O → Type 0) where
+  unread : (l : Listing) → l.status ≢ Status.ReadFault → (text : List ℕ → Stop → Text) (cs : List Call) (o o' : O) → Calls reads writes flushes cs o o' → ByRule (λ t. l) text cs → WriterCalls writes flushes cs o o'
+  unread l sound text [] o o' did rule = did
+  unread l sound text (Read buffer answer ∷ cs) o o' did rule = absurd (sound (ap (λ l. l.status) rule.4.1))
+  unread l sound text (Write bytes answer ∷ cs) o o' did rule = (did.0, unread l sound text cs o did.0 did.1 rule.0, did.2)
+  unread l sound text (Flush answer ∷ cs) o o' did rule = (did.0, unread l sound text cs o did.0 did.1 rule.0, did.2)
+
+  pub make_unread : (gathers : Bool) (n : ℕ) (outcome : Finished) (o o' : O) → (h : Performs reads writes flushes gathers (task_of (Request.Makes n)) outcome o o') → WriterCalls writes flushes h.calls o o'
+  make_unread gathers n outcome o o' h = unread (made_listing n) (λ e. cc) (text_of 0) h.calls o o' h.did h.rule

@@ -2,7 +2,9 @@
 use Rattle.std.proofs.Common.{◌≡◌, ℕ, List, [], Option, Some, Result, refl, arith}
 use Rattle.std.proofs.Math.Seq.{take-append_seam}
 use Rattle.x86_cli.proofs.ListingLemmas.Vocabulary.{true, ⊤, Error, Command, Finished, FlushesOnce, ReadsOnce, WritesOnce, received, stop_of, Failed, made_listing, Has}
-use Rattle.x86_cli.proofs.ListingLemmas.Vocabulary.{HasOfTaken, Leaves, task_of, Performs}
+use Rattle.x86_cli.proofs.ListingLemmas.Vocabulary.{HasOfTaken, Leaves, task_of, Performs, Task}
+use Rattle.x86_streams.specs.declared.outside.joined.Joined.{Joined}
+use Rattle.x86_streams.specs.Outside.Joined.{FlushesWriter, ReadsReader, WritesWriter}
 use Rattle.std.specs.Io.KnownBytes.{Keeps, ReadConsumes, WriteAppends}
 use Rattle.std.proofs.KnownBytes.{Appends-nil, Appends-kept}
 use Rattle.x86_cli.specs.declared.commands.request.Request.TheVariants.{Reads, Makes}
@@ -34,18 +36,21 @@ module _ {R W : Type 0} (left : R → Option (List ℕ)) (written : W → Option
   sends : (answer : Result ⊤ Error) (w w' : W) → FlushesOnce keeps answer w w' → Sends any (written w) (written w') 0 0 answer
   sends answer w w' h = let told = flush_keeps written answer w w' h in grind (arith, told)
 
-  pub make_leaves : (n : ℕ) (outcome : Finished) (r r' : R) (w w' : W) → Performs reads writes keeps true (task_of (Makes n)) outcome r r' w w' → Has outcome.status (made_listing n) (written w) (written w')
-  make_leaves n outcome r r' w w' h =
-      let one = some_stop (stop_of h.calls) in has_listing reads writes keeps left (λ _. 0) written (λ _. 0) any takes adds sends true (task_of (Makes n)) outcome r r' w w' h [] one.0 one.1
+  abbrev Acts : Task → Finished → Joined R W → Joined R W → Type 0
+  Acts = Performs (ReadsReader reads) (WritesWriter writes) (FlushesWriter keeps) true
 
-  module _ (c : Command) (outcome : Finished) (r r' : R) (w w' : W) (h : Performs reads writes keeps true (task_of (Reads c)) outcome r r' w w') where
-    of_a_part : stop_of h.calls ≡ Some Failed → HasOfTaken outcome.status c (left r) (written w) (written w')
+  pub make_leaves : (n : ℕ) (outcome : Finished) (s s' : Joined R W) → Acts (task_of (Makes n)) outcome s s' → Has outcome.status (made_listing n) (written s.writer) (written s'.writer)
+  make_leaves n outcome s s' h =
+      let one = some_stop (stop_of h.calls) in has_listing reads writes keeps left (λ _. 0) written (λ _. 0) any takes adds sends true (task_of (Makes n)) outcome s s' h [] one.0 one.1
+
+  module _ (c : Command) (outcome : Finished) (s s' : Joined R W) (h : Acts (task_of (Reads c)) outcome s s') where
+    of_a_part : stop_of h.calls ≡ Some Failed → HasOfTaken outcome.status c (left s.reader) (written s.writer) (written s'.writer)
     of_a_part is =
-        let read = was_read reads writes keeps left (λ _. 0) written (λ _. 0) any takes adds sends true (task_of (Reads c)) outcome r r' w w' h in
-        (received h.calls, grind (arith, read.0, take-append_seam {A = ℕ}), of_taken reads writes keeps left (λ _. 0) written (λ _. 0) any takes adds sends true c outcome r r' w w' h is)
+        let read = was_read reads writes keeps left (λ _. 0) written (λ _. 0) any takes adds sends true (task_of (Reads c)) outcome s s' h in
+        (received h.calls, grind (arith, read.0, take-append_seam {A = ℕ}), of_taken reads writes keeps left (λ _. 0) written (λ _. 0) any takes adds sends true c outcome s s' h is)
 
-    pub leaves : Leaves outcome.status c (left r) (written w) (written w')
+    pub leaves : Leaves outcome.status c (left s.reader) (written s.writer) (written s'.writer)
     leaves =
-        let ends = ends_at reads writes keeps true c outcome r r' w w' h in
-        let all = of_all reads writes keeps left (λ _. 0) written (λ _. 0) any takes adds sends true c outcome r r' w w' h (stop_of h.calls) refl in
+        let ends = ends_at (ReadsReader reads) (WritesWriter writes) (FlushesWriter keeps) true c outcome s s' h in
+        let all = of_all reads writes keeps left (λ _. 0) written (λ _. 0) any takes adds sends true c outcome s s' h (stop_of h.calls) refl in
         let part = of_a_part in grind arith

@@ -4,15 +4,17 @@ use Rattle.std.proofs.Math.Seq.{take-length}
 use Rattle.std.proofs.lemmas.Option.{IfSome_then}
 use Rattle.x86_cli.proofs.ListingLemmas.Vocabulary.{IfSome, false, ⊤, Error, Uninterrupted, FlushesOnce, Interruptions, ReadsOnce, WritesOnce, received, stop_of, Stop}
 use Rattle.x86_cli.proofs.ListingLemmas.Vocabulary.{End, Failed, text_of, Command, Finished, Status, DecoderLaws, EndsAt, Has, full_listing, max_of, task_of, Listing}
-use Rattle.x86_cli.proofs.ListingLemmas.Vocabulary.{Performs}
+use Rattle.x86_cli.proofs.ListingLemmas.Vocabulary.{Performs, Task}
 use Rattle.std.specs.List.{concat}
 use Rattle.std.specs.Io.KnownBytes.{Appends, Consumes}
 use Rattle.std.proofs.KnownBytes.{Keeps-refl}
-use Rattle.std.specs.declared.io.ErrorKind.TheVariants.{Interrupted}
+use Rattle.std.specs.declared.io.ErrorKind.TheVariants.{Interrupted, Other}
 use Rattle.std.specs.IoError.{error_kind}
 use Rattle.x86_streams.specs.declared.outside.source.Got.{Got}
 use Rattle.x86_streams.specs.declared.outside.sink.SinkFailed.{SinkFailed}
 use Rattle.x86_streams.specs.Outside.FaultCounts.{Rose}
+use Rattle.x86_streams.specs.declared.outside.joined.Joined.{Joined}
+use Rattle.x86_streams.specs.Outside.Joined.{FlushesWriter, ReadsReader, WritesWriter}
 use Rattle.x86_streams.specs.Outside.OneByOne.{HoldsNothing, PutsPiece, ReadsByte}
 use Rattle.x86_streams.specs.Outside.Sink.{ReportsPut}
 use Rattle.x86_streams.specs.Outside.Source.{ReportsGot}
@@ -22,6 +24,9 @@ use Rattle.x86_cli.specs.Commands.Says.{Streams, streams_of, OfAll, OfTaken, Mak
 use Rattle.x86_cli.proofs.CommandLemmas.Causes.{some_stop, text_done}
 use Rattle.x86_cli.proofs.CommandLemmas.Ends.{ends_at}
 use Rattle.x86_cli.proofs.CommandLemmas.Known.{Adds, Counts, Sends, Stopped, Takes, has_listing, of_all, of_taken, was_read, was_sent}
+
+other_is_not_interrupted : (e : Error) → error_kind e ≡ Other → error_kind e ≢ Interrupted
+other_is_not_interrupted e is interrupted = let never : Other ≡ Interrupted = sym is ∙ interrupted in absurd (cc)
 
 -- a call of a source or of a sink is never interrupted
 never_again : {O A : Type 0} (tries : O → Error → O → Type 0) (call : O → Result A Error → O → Type 0) (answer : Result A Error) (o o' : O) →
@@ -37,10 +42,10 @@ module _ {S K : Type 0} (gives : S → Got → S → Type 0) (takes : K → List
     (source : (s : S) (g : Got) (t : S) → gives s g t → ReportsGot g (left s) (left t) (faults s) (faults t))
     (sink : (s : K) (piece : List ℕ) (r : Result ⊤ SinkFailed) (t : K) → takes s piece r t → ReportsPut r piece (written s) (written t) (others s) (others t)) where
   one_read : (buffer : List ℕ) (answer : Result ℕ Error) (s t : S) → ReadsOnce (ReadsByte gives) buffer answer s t → ReadsByte gives s buffer answer t
-  one_read buffer answer s t = never_again _ _ answer s t (λ u e v h. h.1.1)
+  one_read buffer answer s t = never_again _ _ answer s t (λ u e v h. other_is_not_interrupted e h.1.1)
 
   one_write : (bytes : List ℕ) (answer : Result ℕ Error) (k l : K) → WritesOnce (PutsPiece takes) bytes answer k l → PutsPiece takes k bytes answer l
-  one_write bytes answer k l = never_again _ _ answer k l (λ u e v h. h.1)
+  one_write bytes answer k l = never_again _ _ answer k l (λ u e v h. other_is_not_interrupted e h.1)
 
   read_reports : (buffer : List ℕ) (answer : Result ℕ Error) (s t : S) → ReadsOnce (ReadsByte gives) buffer answer s t → Takes Rose (left s) (left t) (faults s) (faults t) answer buffer
   read_reports buffer (Ok zero) s t h = let told = source s Got.End t (one_read buffer (Ok zero) s t h) in grind (arith, told)
@@ -55,37 +60,40 @@ module _ {S K : Type 0} (gives : S → Got → S → Type 0) (takes : K → List
   flush_reports answer k l h =
       let is : (answer ≡ Ok tt) × (l ≡ k) = never_again _ _ answer k l (λ u e v h. λ is. cc) h in rw (is.0, is.1) (Keeps-refl (written k), refl)
 
+  abbrev Acts : Task → Finished → Joined S K → Joined S K → Type 0
+  Acts = Performs (ReadsReader (ReadsByte gives)) (WritesWriter (PutsPiece takes)) (FlushesWriter HoldsNothing) false
+
   -- `make`
 
-  module _ (n : ℕ) (outcome : Finished) (s t : S) (k l : K) (h : Performs (ReadsByte gives) (PutsPiece takes) HoldsNothing false (task_of (request.Makes n)) outcome s t k l) where
-    pub made_says : Makes n outcome.status (written k) (written l) (others k) (others l)
+  module _ (n : ℕ) (outcome : Finished) (s t : Joined S K) (h : Acts (task_of (request.Makes n)) outcome s t) where
+    pub made_says : Makes n outcome.status (written s.writer) (written t.writer) (others s.writer) (others t.writer)
     made_says =
         let one = some_stop (stop_of h.calls) in
-        let has = has_listing (ReadsByte gives) (PutsPiece takes) HoldsNothing left faults written others Rose read_reports write_reports flush_reports false (task_of (request.Makes n)) outcome s t k l h [] one.0 one.1 in
-        let count = (was_sent (ReadsByte gives) (PutsPiece takes) HoldsNothing left faults written others Rose read_reports write_reports flush_reports false (task_of (request.Makes n)) outcome s t k l h outcome.status refl).1 in grind arith
+        let has = has_listing (ReadsByte gives) (PutsPiece takes) HoldsNothing left faults written others Rose read_reports write_reports flush_reports false (task_of (request.Makes n)) outcome s t h [] one.0 one.1 in
+        let count = (was_sent (ReadsByte gives) (PutsPiece takes) HoldsNothing left faults written others Rose read_reports write_reports flush_reports false (task_of (request.Makes n)) outcome s t h outcome.status refl).1 in grind arith
 
   -- a command
 
-  module _ (c : Command) (outcome : Finished) (s t : S) (k l : K) (h : Performs (ReadsByte gives) (PutsPiece takes) HoldsNothing false (task_of (request.Reads c)) outcome s t k l) where
+  module _ (c : Command) (outcome : Finished) (s t : Joined S K) (h : Acts (task_of (request.Reads c)) outcome s t) where
     abbrev old : Streams
-    old = streams_of left faults written others s k
+    old = streams_of left faults written others s
 
     abbrev new : Streams
-    new = streams_of left faults written others t l
+    new = streams_of left faults written others t
 
-    read : Consumes (left s) (left t) (received h.calls) × Stopped (ReadsByte gives) (PutsPiece takes) HoldsNothing left faults written others Rose read_reports write_reports flush_reports (stop_of h.calls) s t
-    read = was_read (ReadsByte gives) (PutsPiece takes) HoldsNothing left faults written others Rose read_reports write_reports flush_reports false (task_of (request.Reads c)) outcome s t k l h
+    read : Consumes (left s.reader) (left t.reader) (received h.calls) × Stopped (ReadsByte gives) (PutsPiece takes) HoldsNothing left faults written others Rose read_reports write_reports flush_reports (stop_of h.calls) s.reader t.reader
+    read = was_read (ReadsByte gives) (PutsPiece takes) HoldsNothing left faults written others Rose read_reports write_reports flush_reports false (task_of (request.Reads c)) outcome s t h
 
-    count : Counts (ReadsByte gives) (PutsPiece takes) HoldsNothing left faults written others Rose read_reports write_reports flush_reports outcome.status k l
-    count = (was_sent (ReadsByte gives) (PutsPiece takes) HoldsNothing left faults written others Rose read_reports write_reports flush_reports false (task_of (request.Reads c)) outcome s t k l h outcome.status refl).1
+    count : Counts (ReadsByte gives) (PutsPiece takes) HoldsNothing left faults written others Rose read_reports write_reports flush_reports outcome.status s.writer t.writer
+    count = (was_sent (ReadsByte gives) (PutsPiece takes) HoldsNothing left faults written others Rose read_reports write_reports flush_reports false (task_of (request.Reads c)) outcome s t h outcome.status refl).1
 
     -- of all the bytes that the source has, and of those that it returned
     all_of : (stop : Option Stop) → stop_of h.calls ≡ stop → stop ≢ Some Failed → OfAll outcome.status c old new
-    all_of = of_all (ReadsByte gives) (PutsPiece takes) HoldsNothing left faults written others Rose read_reports write_reports flush_reports false c outcome s t k l h
+    all_of = of_all (ReadsByte gives) (PutsPiece takes) HoldsNothing left faults written others Rose read_reports write_reports flush_reports false c outcome s t h
 
     part_of : stop_of h.calls ≡ Some Failed → OfTaken outcome.status c old new
     part_of is =
-        let has = of_taken (ReadsByte gives) (PutsPiece takes) HoldsNothing left faults written others Rose read_reports write_reports flush_reports false c outcome s t k l h is in
+        let has = of_taken (ReadsByte gives) (PutsPiece takes) HoldsNothing left faults written others Rose read_reports write_reports flush_reports false c outcome s t h is in
         record { taken = received h.calls; takes = read.0; holds = has; cause = rw is at read.1 }
 
     by_status : (status : Status) → outcome.status ≡ status → EndsAt status (stop_of h.calls) → Says status c old new
@@ -96,7 +104,7 @@ module _ {S K : Type 0} (gives : S → Got → S → Type 0) (takes : K → List
     by_status status same ends = let told = read.1 in (rw same at (all_of (stop_of h.calls) refl ends), grind arith, rw same at count)
 
     pub says : Says outcome.status c old new
-    says = by_status outcome.status refl (ends_at (ReadsByte gives) (PutsPiece takes) HoldsNothing false c outcome s t k l h)
+    says = by_status outcome.status refl (ends_at (ReadsReader (ReadsByte gives)) (WritesWriter (PutsPiece takes)) (FlushesWriter HoldsNothing) false c outcome s t h)
 
 -- what follows
 

@@ -2,7 +2,8 @@
 use Rattle.std.proofs.Common.{◌≡◌, ◌≢◌, ℕ, Bool, false, List, [], ◌∷◌, ◌++◌, Result, Ok, refl, arith, append_assoc, append-nil}
 use Rattle.x86_cli.proofs.ListingLemmas.Vocabulary.{⊤, Error, Call, Puts, SendsAll, Finished, Status}
 use Rattle.x86_streams.specs.declared.outside.sending.WriteFailed.{WriteFailed}
-use Rattle.x86_streams.proofs.OutsideLemmas.Calls.{all_continue_joined, pieces_joined, sent_joined, writer_calls_joined}
+use Rattle.x86_streams.proofs.OutsideLemmas.Calls.{all_continue_joined, calls_joined, pieces_joined, sent_joined}
+use Rattle.x86_streams.specs.Outside.Chain.{NoRead}
 use Rattle.x86_cli.specs.Listings.Closes.{Closes}
 use Rattle.x86_cli.proofs.ListingLemmas.Live.{follow_of, not_taken_first}
 
@@ -32,7 +33,7 @@ module _ {W : Type 0} (writes : W → List ℕ → Result ℕ Error → W → Ty
       after [] is = absurd (rw is at q.ends)
       after (c ∷ cs) is = record {
         calls = c ∷ (cs ++ p.sends.calls);
-        did = writer_calls_joined writes flushes (c ∷ cs) p.sends.calls u v w p.sends.did (rw is at q.did);
+        did = calls_joined writes flushes NoRead (c ∷ cs) p.sends.calls u v w p.sends.did (rw is at q.did);
         follow = all_continue_joined cs p.sends.calls (rw is at q.follow) p.sends.cause;
         ends = rw is at q.ends;
         gone = rw is at q.gone;

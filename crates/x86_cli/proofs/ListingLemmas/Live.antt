@@ -42,7 +42,7 @@ module _ {W : Type 0} (writes : W → List ℕ → Result ℕ Error → W → Ty
   pub by_rule_joined : (known : Text → Listing) (text : List ℕ → Stop → Text) (cs ds : List Call) (w w' : W) → WriterCalls writes flushes cs w w' → Follow cs → ByRule known text ds → AllContinue ds →
       ByRule known text (cs ++ ds)
   by_rule_joined known text [] ds w w' did f rule d = rule
-  by_rule_joined known text (Read buffer answer ∷ cs) ds w w' did f rule d = absurd did
+  by_rule_joined known text (Read buffer answer ∷ cs) ds w w' did f rule d = absurd did.2.answered
   by_rule_joined known text (Write bytes answer ∷ cs) ds w w' did f rule d =
       (by_rule_joined known text cs ds w did.0 did.1 (follow_of {A = ⊤} {E = WriteFailed} (Ok tt) cs f) rule d, λ e. (let all = all_continue_joined cs ds f d in grind arith))
   by_rule_joined known text (Flush answer ∷ cs) ds w w' did f rule d =
@@ -57,13 +57,13 @@ read_stop buffer answer cs = grind arith
 pub not_taken_first : (c : Call) (cs ds : List Call) → not_taken (c ∷ cs) ≡ not_taken (c ∷ ds)
 not_taken_first c cs ds = grind arith
 
-module _ {R W : Type 0} (reads : R → List ℕ → Result ℕ Error → R → Type 0) (writes : W → List ℕ → Result ℕ Error → W → Type 0) (flushes : W → Result ⊤ Error → W → Type 0)
-    (gathers : Bool) (at knows : ℕ → Text → Listing) (max : ℕ) (r : R) (v : W) where
+module _ {O : Type 0} (reads : O → List ℕ → Result ℕ Error → O → Type 0) (writes : O → List ℕ → Result ℕ Error → O → Type 0) (flushes : O → Result ⊤ Error → O → Type 0)
+    (gathers : Bool) (at knows : ℕ → Text → Listing) (max : ℕ) (o : O) where
   -- at place text: what is listed of a text from a place on; knows place text: what is listed of it whatever follows
   -- The image so far is listed up to a place, and the rest of the text is what the window has.
-  pub record Live (image : List ℕ) (n : ℕ) (ended : Option Ending) (w : List ℕ) (text : TextPosition) (held : List ℕ) (r' : R) (v' : W) : Type 0 where
+  pub record Live (image : List ℕ) (n : ℕ) (ended : Option Ending) (w : List ℕ) (text : TextPosition) (held : List ℕ) (o' : O) : Type 0 where
     pub calls : List Call
-    pub did : Calls reads writes flushes calls r r' v v'
+    pub did : Calls reads writes flushes calls o o'
     pub rule : ByRule (knows 0) (text_of max) calls
     pub unfailed : AllContinue calls
     pub unstopped : ended ≡ None → stop_of calls ≡ None
@@ -74,10 +74,10 @@ module _ {R W : Type 0} (reads : R → List ℕ → Result ℕ Error → R → T
     pub lists : (xs : List ℕ) (stop : Stop) → MayCome (stop_of calls) xs stop → at 0 (text_of max (received calls ++ xs) stop) ≡ with_lines lines (at n (rest_after ended w text xs stop))
     pub decided : ended ≡ None → (xs : List ℕ) (stop : Stop) → knows 0 (text_of max (received calls ++ xs) stop) ≡ with_lines lines (knows n (rest_after ended w text xs stop))
 
-  abbrev pub live_new : (text : TextPosition) → text ≡ record { position = 0; room = max; unread = [] } → Live [] 0 None [] text [] r v
+  abbrev pub live_new : (text : TextPosition) → text ≡ record { position = 0; room = max; unread = [] } → Live [] 0 None [] text [] o
   live_new text is = record {
     calls = [];
-    did = (refl, refl);
+    did = refl;
     rule = tt;
     unfailed = tt;
     unstopped = λ _. refl;
@@ -89,9 +89,9 @@ module _ {R W : Type 0} (reads : R → List ℕ → Result ℕ Error → R → T
     decided = λ _ xs s. rw is refl;
   }
 
-  module _ (image : List ℕ) (n : ℕ) (ended : Option Ending) (w : List ℕ) (text : TextPosition) (held : List ℕ) (r' : R) (v' : W) (s : Live image n ended w text held r' v') where
+  module _ (image : List ℕ) (n : ℕ) (ended : Option Ending) (w : List ℕ) (text : TextPosition) (held : List ℕ) (o' : O) (s : Live image n ended w text held o') where
     -- the same text is left
-    abbrev pub live_rest : (ended' : Option Ending) (w' : List ℕ) (text' : TextPosition) → LeavesRest ended w text ended' w' text' → (ended' ≡ None → ended ≡ None) → Live image n ended' w' text' held r' v'
+    abbrev pub live_rest : (ended' : Option Ending) (w' : List ℕ) (text' : TextPosition) → LeavesRest ended w text ended' w' text' → (ended' ≡ None → ended ≡ None) → Live image n ended' w' text' held o'
     live_rest ended' w' text' rest was = record {
       calls = s.calls;
       did = s.did;
@@ -107,24 +107,24 @@ module _ {R W : Type 0} (reads : R → List ℕ → Result ℕ Error → R → T
     }
 
     -- bytes that were read came into the window
-    pub live_take : (ended' : Option Ending) (w' : List ℕ) (text' : TextPosition) → ended' ≡ ended → TakesBytes ended w text w' text' → Live image n ended' w' text' held r' v'
+    pub live_take : (ended' : Option Ending) (w' : List ℕ) (text' : TextPosition) → ended' ≡ ended → TakesBytes ended w text w' text' → Live image n ended' w' text' held o'
     live_take ended' w' text' same took = rw same (live_rest ended w' text' took.rest (λ e. e))
 
     pub split : (len : ℕ) (xs : List ℕ) (stop : Stop) → with_bytes image (rest_after ended w text xs stop) ≡ with_bytes (image ++ take len w) (rest_after ended (drop len w) text xs stop)
     split len xs stop = grind (arith, take-append-drop len w, append_assoc {A = ℕ})
 
     -- lines were put, of bytes that leave the window
-    abbrev pub live_put : (ls : List (List ℕ)) (n' len : ℕ) (held' : List ℕ) (v'' : W) →
+    abbrev pub live_put : (ls : List (List ℕ)) (n' len : ℕ) (held' : List ℕ) (o'' : O) →
         ((xs : List ℕ) (stop : Stop) → at n (rest_after ended w text xs stop) ≡ with_lines ls (at n' (rest_after ended (drop len w) text xs stop))) →
         (ended ≡ None → (xs : List ℕ) (stop : Stop) → knows n (rest_after ended w text xs stop) ≡ with_lines ls (knows n' (rest_after ended (drop len w) text xs stop))) →
-        (q : Sends writes flushes (Ok tt) (concat ls) held held' v' v'') → (gathers ≡ false → (held' ≡ []) × (pieces q.calls ≡ ls)) → Live (image ++ take len w) n' ended (drop len w) text held' r' v''
-    live_put ls n' len held' v'' step known q once =
-        let stop_is = stop_joined writes flushes q.calls s.calls v' v'' q.did in
-        let received_is = received_joined writes flushes q.calls s.calls v' v'' q.did in
+        (q : Sends writes flushes (Ok tt) (concat ls) held held' o' o'') → (gathers ≡ false → (held' ≡ []) × (pieces q.calls ≡ ls)) → Live (image ++ take len w) n' ended (drop len w) text held' o''
+    live_put ls n' len held' o'' step known q once =
+        let stop_is = stop_joined writes flushes q.calls s.calls o' o'' q.did in
+        let received_is = received_joined writes flushes q.calls s.calls o' o'' q.did in
         record {
           calls = q.calls ++ s.calls;
-          did = calls_joined writes flushes reads q.calls s.calls r r' v v' v'' s.did q.did;
-          rule = by_rule_joined writes flushes (knows 0) (text_of max) q.calls s.calls v' v'' q.did (follow_of {A = ⊤} {E = WriteFailed} (Ok tt) q.calls q.cause) s.rule s.unfailed;
+          did = calls_joined writes flushes reads q.calls s.calls o o' o'' s.did q.did;
+          rule = by_rule_joined writes flushes (knows 0) (text_of max) q.calls s.calls o' o'' q.did (follow_of {A = ⊤} {E = WriteFailed} (Ok tt) q.calls q.cause) s.rule s.unfailed;
           unfailed = all_continue_joined q.calls s.calls q.cause s.unfailed;
           unstopped = λ e. stop_is ∙ s.unstopped e;
           lines = s.lines ++ ls;
@@ -135,27 +135,27 @@ module _ {R W : Type 0} (reads : R → List ℕ → Result ℕ Error → R → T
           decided = λ e xs stop. rw received_is (s.decided e xs stop ∙ ap (with_lines s.lines) (known e xs stop) ∙ with-with s.lines ls (knows n' (rest_after ended (drop len w) text xs stop)));
         }
 
-    pub live_line : (x : List ℕ) (len : ℕ) (held' : List ℕ) (v'' : W) → IsLine at len n x ended w text.position text.room → (ended ≡ None → IsLine knows len n x ended w text.position text.room) →
-        Puts writes flushes gathers (Ok tt) (line x) held held' v' v'' → Live (image ++ take len w) (n + len) ended (drop len w) text held' r' v''
-    live_line x len held' v'' step known p =
-        rw p.held (live_put (line x ∷ []) (n + len) len p.rest v'' (λ xs stop. step (text.unread ++ xs) stop) (λ e xs stop. known e (text.unread ++ xs) stop) (sends_as writes flushes (Ok tt) (line x) (line x ++ []) held p.rest v' v'' (sym (append-nil (line x))) p.sends) (λ e. ((p.once e).1, (p.once e).0)))
+    pub live_line : (x : List ℕ) (len : ℕ) (held' : List ℕ) (o'' : O) → IsLine at len n x ended w text.position text.room → (ended ≡ None → IsLine knows len n x ended w text.position text.room) →
+        Puts writes flushes gathers (Ok tt) (line x) held held' o' o'' → Live (image ++ take len w) (n + len) ended (drop len w) text held' o''
+    live_line x len held' o'' step known p =
+        rw p.held (live_put (line x ∷ []) (n + len) len p.rest o'' (λ xs stop. step (text.unread ++ xs) stop) (λ e xs stop. known e (text.unread ++ xs) stop) (sends_as writes flushes (Ok tt) (line x) (line x ++ []) held p.rest o' o'' (sym (append-nil (line x))) p.sends) (λ e. ((p.once e).1, (p.once e).0)))
 
     -- ---- ends
 
     -- The last calls, after which the writer has taken these lines of the rest, or the beginning of them.
-    ends_in : (outcome : Finished) (v'' : W) (cs : List Call) (ls : List (List ℕ)) (after : List ℕ → Stop → Listing) (unsent : List ℕ) → WriterCalls writes flushes cs v' v'' → Follow cs →
+    ends_in : (outcome : Finished) (o'' : O) (cs : List Call) (ls : List (List ℕ)) (after : List ℕ → Stop → Listing) (unsent : List ℕ) → WriterCalls writes flushes cs o' o'' → Follow cs →
         EndsIn (IsLastAt outcome.status) cs → (IsTrue outcome.gone ↔ EndsIn IsGone cs) → ((xs : List ℕ) (stop : Stop) → at n (rest_after ended w text xs stop) ≡ with_lines ls (after xs stop)) →
         held ++ concat ls ≡ sent cs ++ unsent → StartsWith unsent (not_taken cs) →
         (outcome.status ≢ WriteFault → (unsent ≡ []) × ((xs : List ℕ) (stop : Stop) → record { lines = []; status = outcome.status } ≡ after xs stop)) → (gathers ≡ false → pieces cs ≡ ls) →
-        Performs reads writes flushes gathers (record { max = max; known = knows 0; lists = at 0 }) outcome r r' v v''
-    ends_in outcome v'' [] ls after unsent did follow last gone step part next all once = absurd last
-    ends_in outcome v'' (c ∷ cs) ls after unsent did follow last gone step part next all once =
-        let stop_is = stop_joined writes flushes (c ∷ cs) s.calls v' v'' did in
-        let received_is = received_joined writes flushes (c ∷ cs) s.calls v' v'' did in
+        Performs reads writes flushes gathers (record { max = max; known = knows 0; lists = at 0 }) outcome o o''
+    ends_in outcome o'' [] ls after unsent did follow last gone step part next all once = absurd last
+    ends_in outcome o'' (c ∷ cs) ls after unsent did follow last gone step part next all once =
+        let stop_is = stop_joined writes flushes (c ∷ cs) s.calls o' o'' did in
+        let received_is = received_joined writes flushes (c ∷ cs) s.calls o' o'' did in
         record {
           calls = c ∷ (cs ++ s.calls);
-          did = calls_joined writes flushes reads (c ∷ cs) s.calls r r' v v' v'' s.did did;
-          rule = by_rule_joined writes flushes (knows 0) (text_of max) (c ∷ cs) s.calls v' v'' did follow s.rule s.unfailed;
+          did = calls_joined writes flushes reads (c ∷ cs) s.calls o o' o'' s.did did;
+          rule = by_rule_joined writes flushes (knows 0) (text_of max) (c ∷ cs) s.calls o' o'' did follow s.rule s.unfailed;
           flushed = λ ne. let status = outcome.status in grind arith;
           failed = λ is. rw is at last;
           gone = gone;
@@ -173,43 +173,43 @@ module _ {R W : Type 0} (reads : R → List ℕ → Result ℕ Error → R → T
               ((after xs stop).lines, ap (λ l. l.lines) (s.lists xs stop (rw stop_is at may) ∙ ap (with_lines s.lines) (step xs stop)) ∙ sym (append_assoc s.lines ls (after xs stop).lines));
         }
 
-    pub live_closes : (outcome : Finished) (v'' : W) (last : Listing) → ((xs : List ℕ) (stop : Stop) → at n (rest_of ended w text.position text.room xs stop) ≡ last) → Closes writes flushes gathers held last outcome v' v'' →
-        Performs reads writes flushes gathers (record { max = max; known = knows 0; lists = at 0 }) outcome r r' v v''
-    live_closes outcome v'' last is q =
-        ends_in outcome v'' q.calls last.lines (λ xs stop. record { lines = []; status = last.status }) q.unsent q.did q.follow q.ends q.gone (λ xs stop. rw append-nil (is (text.unread ++ xs) stop))
+    pub live_closes : (outcome : Finished) (o'' : O) (last : Listing) → ((xs : List ℕ) (stop : Stop) → at n (rest_of ended w text.position text.room xs stop) ≡ last) → Closes writes flushes gathers held last outcome o' o'' →
+        Performs reads writes flushes gathers (record { max = max; known = knows 0; lists = at 0 }) outcome o o''
+    live_closes outcome o'' last is q =
+        ends_in outcome o'' q.calls last.lines (λ xs stop. record { lines = []; status = last.status }) q.unsent q.did q.follow q.ends q.gone (λ xs stop. rw append-nil (is (text.unread ++ xs) stop))
         q.whole q.next (λ ne. ((q.all ne).0, λ xs stop. rw (q.all ne).1 refl)) q.each
 
     -- a call failed, at these lines of what is left
-    pub live_fails : (outcome : Finished) (f : WriteFailed) (ls : List (List ℕ)) (after : List ℕ → Stop → Listing) (rest : List ℕ) (v'' : W) → outcome.status ≡ WriteFault → outcome.gone ≡ f.gone →
-        ((xs : List ℕ) (stop : Stop) → at n (rest_after ended w text xs stop) ≡ with_lines ls (after xs stop)) → (q : Sends writes flushes (Err f) (concat ls) held rest v' v'') → (gathers ≡ false → pieces q.calls ≡ ls) →
-        Performs reads writes flushes gathers (record { max = max; known = knows 0; lists = at 0 }) outcome r r' v v''
-    live_fails outcome f ls after rest v'' status gone step q once =
-        ends_in outcome v'' q.calls ls after rest q.did (follow_of {A = ⊤} {E = WriteFailed} (Err f) q.calls q.cause) (rw status (fails_last f q.calls q.cause)) (rw gone q.failed.1) step (sym q.order) q.failed.0
+    pub live_fails : (outcome : Finished) (f : WriteFailed) (ls : List (List ℕ)) (after : List ℕ → Stop → Listing) (rest : List ℕ) (o'' : O) → outcome.status ≡ WriteFault → outcome.gone ≡ f.gone →
+        ((xs : List ℕ) (stop : Stop) → at n (rest_after ended w text xs stop) ≡ with_lines ls (after xs stop)) → (q : Sends writes flushes (Err f) (concat ls) held rest o' o'') → (gathers ≡ false → pieces q.calls ≡ ls) →
+        Performs reads writes flushes gathers (record { max = max; known = knows 0; lists = at 0 }) outcome o o''
+    live_fails outcome f ls after rest o'' status gone step q once =
+        ends_in outcome o'' q.calls ls after rest q.did (follow_of {A = ⊤} {E = WriteFailed} (Err f) q.calls q.cause) (rw status (fails_last f q.calls q.cause)) (rw gone q.failed.1) step (sym q.order) q.failed.0
         (λ ne. absurd (ne status)) once
 
-    pub live_unput : (outcome : Finished) (f : WriteFailed) (x : List ℕ) (len : ℕ) (held' : List ℕ) (v'' : W) → outcome.status ≡ WriteFault → outcome.gone ≡ f.gone → IsLine at len n x ended w text.position text.room →
-        Puts writes flushes gathers (Err f) (line x) held held' v' v'' → Performs reads writes flushes gathers (record { max = max; known = knows 0; lists = at 0 }) outcome r r' v v''
-    live_unput outcome f x len held' v'' status gone step p =
-        live_fails outcome f (line x ∷ []) (λ xs stop. at (n + len) (rest_after ended (drop len w) text xs stop)) p.rest v'' status gone (λ xs stop. step (text.unread ++ xs) stop)
-        (sends_as writes flushes (Err f) (line x) (line x ++ []) held p.rest v' v'' (sym (append-nil (line x))) p.sends) (λ e. (p.once e).0)
+    pub live_unput : (outcome : Finished) (f : WriteFailed) (x : List ℕ) (len : ℕ) (held' : List ℕ) (o'' : O) → outcome.status ≡ WriteFault → outcome.gone ≡ f.gone → IsLine at len n x ended w text.position text.room →
+        Puts writes flushes gathers (Err f) (line x) held held' o' o'' → Performs reads writes flushes gathers (record { max = max; known = knows 0; lists = at 0 }) outcome o o''
+    live_unput outcome f x len held' o'' status gone step p =
+        live_fails outcome f (line x ∷ []) (λ xs stop. at (n + len) (rest_after ended (drop len w) text xs stop)) p.rest o'' status gone (λ xs stop. step (text.unread ++ xs) stop)
+        (sends_as writes flushes (Err f) (line x) (line x ++ []) held p.rest o' o'' (sym (append-nil (line x))) p.sends) (λ e. (p.once e).0)
 
-    pub live_unsent : (outcome : Finished) (f : WriteFailed) (held' : List ℕ) (v'' : W) → outcome.status ≡ WriteFault → outcome.gone ≡ f.gone → SendsAll writes flushes (Err f) held held' v' v'' →
-        Performs reads writes flushes gathers (record { max = max; known = knows 0; lists = at 0 }) outcome r r' v v''
-    live_unsent outcome f held' v'' status gone q =
-        live_fails outcome f [] (λ xs stop. at n (rest_after ended w text xs stop)) held' v'' status gone (λ xs stop. refl) q.0 (λ e. q.2 (s.each e).0)
+    pub live_unsent : (outcome : Finished) (f : WriteFailed) (held' : List ℕ) (o'' : O) → outcome.status ≡ WriteFault → outcome.gone ≡ f.gone → SendsAll writes flushes (Err f) held held' o' o'' →
+        Performs reads writes flushes gathers (record { max = max; known = knows 0; lists = at 0 }) outcome o o''
+    live_unsent outcome f held' o'' status gone q =
+        live_fails outcome f [] (λ xs stop. at n (rest_after ended w text xs stop)) held' o'' status gone (λ xs stop. refl) q.0 (λ e. q.2 (s.each e).0)
 
   -- All that was gathered was sent, and a read was made, where the window decides no more.
-  module _ (image : List ℕ) (n : ℕ) (w : List ℕ) (text : TextPosition) (held : List ℕ) (r' : R) (v' : W) (s : Live image n None w text held r' v') where
-    abbrev pub live_fill : (held' : List ℕ) (v'' : W) (ended' : Option Ending) (text' : TextPosition) (r'' : R) → SendsAll writes flushes (Ok tt) held held' v' v'' → IsOpenText text.unread text.room →
-        ((t : Text) → NeedsMore 1 t → knows n (with_bytes w t) ≡ at_end Fault) → Fills reads w text ended' text' r' r'' → Live image n ended' w text' held' r'' v''
-    live_fill held' v'' ended' text' r'' q half more f =
-        let t = live_put image n None w text held r' v' s [] n 0 held' v'' (λ xs stop. refl) (λ _ xs stop. refl) q.0 (λ e. (q.1.0, q.2 (s.each e).0)) in
+  module _ (image : List ℕ) (n : ℕ) (w : List ℕ) (text : TextPosition) (held : List ℕ) (o' : O) (s : Live image n None w text held o') where
+    abbrev pub live_fill : (held' : List ℕ) (o'' : O) (ended' : Option Ending) (text' : TextPosition) (o''' : O) → SendsAll writes flushes (Ok tt) held held' o' o'' → IsOpenText text.unread text.room →
+        ((t : Text) → NeedsMore 1 t → knows n (with_bytes w t) ≡ at_end Fault) → Fills reads w text ended' text' o'' o''' → Live image n ended' w text' held' o'''
+    live_fill held' o'' ended' text' o''' q half more f =
+        let t = live_put image n None w text held o' s [] n 0 held' o'' (λ xs stop. refl) (λ _ xs stop. refl) q.0 (λ e. (q.1.0, q.2 (s.each e).0)) in
         let needs : NeedsMore 1 (text_at text.position text.room (text.unread ++ []) Failed) = rw (append-nil, half.failed text.position) (refl, omega arith) in
         let known = rw append-nil at (t.decided refl [] Failed) ∙ ap (with_lines t.lines) (more (text_at text.position text.room (text.unread ++ []) Failed) needs) in
         record {
           calls = Read f.buffer f.answer ∷ t.calls;
-          did = (r', t.did, f.answered);
-          rule = (t.rule, f.some, t.unstopped refl, ends_joined IsFlush q.0.calls s.calls q.1.1, (t.lines, known, sym t.put ∙ rw (q.1.0, append-nil) refl));
+          did = (o'', t.did, f.answered);
+          rule = (t.rule, f.block, t.unstopped refl, ends_joined IsFlush q.0.calls s.calls q.1.1, (t.lines, known, sym t.put ∙ rw (q.1.0, append-nil) refl));
           unfailed = ((λ e. e), t.unfailed);
           unstopped = λ e. read_stop f.buffer f.answer t.calls ∙ f.stop e;
           lines = t.lines;

@@ -32,29 +32,29 @@ none_sent (Read buffer answer ∷ cs) h = none_sent cs h
 none_sent (Write bytes answer ∷ cs) h = absurd (omega (arith, ap length h, length-append (pieces cs) (bytes ∷ [])))
 none_sent (Flush answer ∷ cs) h = none_sent cs h
 
-module _ {R W : Type 0} (reads : R → List ℕ → Result ℕ Error → R → Type 0) (writes : W → List ℕ → Result ℕ Error → W → Type 0) (flushes : W → Result ⊤ Error → W → Type 0)
-    (gathers : Bool) (max : ℕ) (r : R) (v : W) where
-  abbrev pub Whole : List ℕ → Option Ending → List ℕ → TextPosition → R → W → Type 0
-  Whole image ended w text r' v' = (s : Live reads writes flushes gathers ends_of ends_of max r v image 0 ended w text [] r' v') × (pieces s.calls ≡ [])
+module _ {O : Type 0} (reads : O → List ℕ → Result ℕ Error → O → Type 0) (writes : O → List ℕ → Result ℕ Error → O → Type 0) (flushes : O → Result ⊤ Error → O → Type 0)
+    (gathers : Bool) (max : ℕ) (o : O) where
+  abbrev pub Whole : List ℕ → Option Ending → List ℕ → TextPosition → O → Type 0
+  Whole image ended w text o' = (s : Live reads writes flushes gathers ends_of ends_of max o image 0 ended w text [] o') × (pieces s.calls ≡ [])
 
-  module _ (image : List ℕ) (ended : Option Ending) (w : List ℕ) (text : TextPosition) (r' : R) (v' : W) (h : Whole image ended w text r' v') where
+  module _ (image : List ℕ) (ended : Option Ending) (w : List ℕ) (text : TextPosition) (o' : O) (h : Whole image ended w text o') where
     -- the same text is left
-    pub whole_left : (ended' : Option Ending) (w' : List ℕ) (text' : TextPosition) → LeavesRest ended w text ended' w' text' → (ended' ≡ None → ended ≡ None) → Whole image ended' w' text' r' v'
-    whole_left ended' w' text' rest was = (live_rest reads writes flushes gathers ends_of ends_of max r v image 0 ended w text [] r' v' h.0 ended' w' text' rest was, h.1)
+    pub whole_left : (ended' : Option Ending) (w' : List ℕ) (text' : TextPosition) → LeavesRest ended w text ended' w' text' → (ended' ≡ None → ended ≡ None) → Whole image ended' w' text' o'
+    whole_left ended' w' text' rest was = (live_rest reads writes flushes gathers ends_of ends_of max o image 0 ended w text [] o' h.0 ended' w' text' rest was, h.1)
 
     -- the bytes of the window came into the image
-    pub whole_taken : (image' w' : List ℕ) → image' ≡ image ++ w → w' ≡ [] → Whole image' ended w' text r' v'
+    pub whole_taken : (image' w' : List ℕ) → image' ≡ image ++ w → w' ≡ [] → Whole image' ended w' text o'
     whole_taken image' w' is none =
-        let taken : Whole (image ++ take (length w) w) ended (drop (length w) w) text r' v' = (
-          live_put reads writes flushes gathers ends_of ends_of max r v image 0 ended w text [] r' v' h.0 [] 0 (length w) [] v' (λ xs stop. grind arith) (λ _ xs stop. grind arith)
+        let taken : Whole (image ++ take (length w) w) ended (drop (length w) w) text o' = (
+          live_put reads writes flushes gathers ends_of ends_of max o image 0 ended w text [] o' h.0 [] 0 (length w) [] o' (λ xs stop. grind arith) (λ _ xs stop. grind arith)
               (record { calls = []; did = refl; cause = tt; order = refl; failed = tt }) (λ e. (refl, refl)),
           h.1,
         ) in
         rw (is, none) (rw (take-length, drop_all (length w) w (omega arith)) at taken)
 
     -- a flush failed
-    pub whole_unsent : (f : WriteFailed) (held' : List ℕ) (v'' : W) → SendsAll writes flushes (Err f) [] held' v' v'' → ReadsWhole reads writes flushes max (Err f) r r' v v''
-    whole_unsent f held' v'' q =
+    pub whole_unsent : (f : WriteFailed) (held' : List ℕ) (o'' : O) → SendsAll writes flushes (Err f) [] held' o' o'' → ReadsWhole reads writes flushes max (Err f) o o''
+    whole_unsent f held' o'' q =
         let s = h.0 in
         let cs = q.0.calls in
         let joined = failed_joined (Err f) held' cs s.calls s.unfailed (q.0.cause, q.0.failed) in
@@ -62,25 +62,25 @@ module _ {R W : Type 0} (reads : R → List ℕ → Result ℕ Error → R → T
         let next = failed.0 in
         record {
           calls = cs ++ s.calls;
-          did = calls_joined writes flushes reads cs s.calls r r' v v' v'' s.did q.0.did;
-          rule = by_rule_joined writes flushes (ends_of 0) (text_of max) cs s.calls v' v'' q.0.did (follow_of {A = ⊤} {E = WriteFailed} (Err f) cs q.0.cause) s.rule s.unfailed;
+          did = calls_joined writes flushes reads cs s.calls o o' o'' s.did q.0.did;
+          rule = by_rule_joined writes flushes (ends_of 0) (text_of max) cs s.calls o' o'' q.0.did (follow_of {A = ⊤} {E = WriteFailed} (Err f) cs q.0.cause) s.rule s.unfailed;
           none = rw (pieces_joined, h.1) (q.2 refl);
           ends = (ends_joined Fails cs s.calls (fails_last f cs q.0.cause), grind arith, failed.1);
         }
 
   -- the writer was flushed, and a read was made
-  pub whole_filled : (image w : List ℕ) (text : TextPosition) (r' : R) (v' : W) → Whole image None w text r' v' → (held' : List ℕ) (v'' : W) (ended' : Option Ending) (text' : TextPosition) (r'' : R) → SendsAll writes flushes (Ok tt) [] held' v' v'' →
-      IsOpenText text.unread text.room → Fills reads w text ended' text' r' r'' → held' ≡ [] → Whole image ended' w text' r'' v''
-  whole_filled image w text r' v' h held' v'' ended' text' r'' q half f none =
-      let q' : SendsAll writes flushes (Ok tt) [] [] v' v'' = rw none at q in (
-        live_fill reads writes flushes gathers ends_of ends_of max r v image 0 w text [] r' v' h.0 [] v'' ended' text' r'' q' half (λ t needs. ap at_end needs.0) f,
+  pub whole_filled : (image w : List ℕ) (text : TextPosition) (o' : O) → Whole image None w text o' → (held' : List ℕ) (o'' : O) (ended' : Option Ending) (text' : TextPosition) (o''' : O) → SendsAll writes flushes (Ok tt) [] held' o' o'' →
+      IsOpenText text.unread text.room → Fills reads w text ended' text' o'' o''' → held' ≡ [] → Whole image ended' w text' o'''
+  whole_filled image w text o' h held' o'' ended' text' o''' q half f none =
+      let q' : SendsAll writes flushes (Ok tt) [] [] o' o'' = rw none at q in (
+        live_fill reads writes flushes gathers ends_of ends_of max o image 0 w text [] o' h.0 [] o'' ended' text' o''' q' half (λ t needs. ap at_end needs.0) f,
         pieces_joined q'.0.calls h.0.calls ∙ ap (λ ps. ps ++ pieces q'.0.calls) h.1 ∙ q'.2 refl,
       )
 
   -- the text has ended
-  pub whole_read : (image : List ℕ) (e : Ending) (w : List ℕ) (text : TextPosition) (r' : R) (v' : W) (result : WholeText) → Whole image (Some e) w text r' v' → w ≡ [] → result.image.items ≡ image → result.ending ≡ e →
-      ReadsWhole reads writes flushes max (Ok result) r r' v v'
-  whole_read image e w text r' v' result h none same ending = record {
+  pub whole_read : (image : List ℕ) (e : Ending) (w : List ℕ) (text : TextPosition) (o' : O) (result : WholeText) → Whole image (Some e) w text o' → w ≡ [] → result.image.items ≡ image → result.ending ≡ e →
+      ReadsWhole reads writes flushes max (Ok result) o o'
+  whole_read image e w text o' result h none same ending = record {
     calls = h.0.calls;
     did = h.0.did;
     rule = h.0.rule;
@@ -89,9 +89,9 @@ module _ {R W : Type 0} (reads : R → List ℕ → Result ℕ Error → R → T
   }
 
   -- the listing of a text that was read
-  pub whole_lists : (at : ℕ → Text → Listing) (text : WholeText) (r' : R) (v' : W) → ReadsWhole reads writes flushes max (Ok text) r r' v v' →
-      Live reads writes flushes gathers at ends_of max r v [] 0 (Some text.ending) text.image.items (record { position = 0; room = 0; unread = [] }) [] r' v'
-  whole_lists at text r' v' h = record {
+  pub whole_lists : (at : ℕ → Text → Listing) (text : WholeText) (o' : O) → ReadsWhole reads writes flushes max (Ok text) o o' →
+      Live reads writes flushes gathers at ends_of max o [] 0 (Some text.ending) text.image.items (record { position = 0; room = 0; unread = [] }) [] o'
+  whole_lists at text o' h = record {
     calls = h.calls;
     did = h.did;
     rule = h.rule;
@@ -105,9 +105,9 @@ module _ {R W : Type 0} (reads : R → List ℕ → Result ℕ Error → R → T
     decided = λ e. cc;
   }
 
-  pub whole_fails : (at : ℕ → Text → Listing) (f : WriteFailed) (outcome : Finished) (r' : R) (v' : W) → outcome.status ≡ WriteFault → outcome.gone ≡ f.gone → ReadsWhole reads writes flushes max (Err f) r r' v v' →
-      Performs reads writes flushes gathers (record { max = max; known = ends_of 0; lists = at 0 }) outcome r r' v v'
-  whole_fails at f outcome r' v' status gone h = record {
+  pub whole_fails : (at : ℕ → Text → Listing) (f : WriteFailed) (outcome : Finished) (o' : O) → outcome.status ≡ WriteFault → outcome.gone ≡ f.gone → ReadsWhole reads writes flushes max (Err f) o o' →
+      Performs reads writes flushes gathers (record { max = max; known = ends_of 0; lists = at 0 }) outcome o o'
+  whole_fails at f outcome o' status gone h = record {
     calls = h.calls;
     did = h.did;
     rule = h.rule;

@@ -2,7 +2,9 @@
 use Rattle.std.specs.Prelude.{◌≡◌, ℕ, ◌≤◌, Bool, false, List, [], ◌∷◌, Some, Result, ⊤, codes, decimal}
 use Rattle.x86_streams.specs.declared.outside.source.Got.{Got}
 use Rattle.x86_streams.specs.declared.outside.sink.SinkFailed.{SinkFailed}
+use Rattle.x86_streams.specs.Outside.Joined.{FlushesWriter, ReadsReader, WritesWriter}
 use Rattle.x86_streams.specs.Outside.OneByOne.{HoldsNothing, PutsPiece, ReadsByte}
+use Rattle.x86_streams.specs.declared.outside.joined.Joined.{Joined}
 use Rattle.x86_streams.specs.Outside.Stop.{End, Failed}
 use Rattle.x86_streams.specs.Text.{Text, text_of}
 use Rattle.x86_decode.specs.declared.instructions.Instruction.{Instruction}
@@ -48,9 +50,9 @@ task_of (Request.Makes n) = record { max = 0; known = λ t. made_listing n; list
 
 -- What a run does with a source and a sink: each read is a call of the source, and each write a put
 -- of one line.
-abbrev pub Runs : {S K : Type 0} → (S → Got → S → Type 0) → (K → List ℕ → Result ⊤ SinkFailed → K → Type 0) → Request → Status → S → S → K → K → Type 0
-Runs gives takes request status source source' sink sink' = (gone : Bool)
-    × Performs (ReadsByte gives) (PutsPiece takes) HoldsNothing false (task_of request) (record { status = status; gone = gone }) source source' sink sink'
+abbrev pub Runs : {S K : Type 0} → (S → Got → S → Type 0) → (K → List ℕ → Result ⊤ SinkFailed → K → Type 0) → Request → Status → Joined S K → Joined S K → Type 0
+Runs gives takes request status streams streams' = (gone : Bool)
+    × Performs (ReadsReader (ReadsByte gives)) (WritesWriter (PutsPiece takes)) (FlushesWriter HoldsNothing) false (task_of request) (record { status = status; gone = gone }) streams streams'
 
 -- ---- of a command
 

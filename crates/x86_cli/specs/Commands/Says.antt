@@ -1,6 +1,7 @@
 -- What a run says of a source and of a sink whose bytes are known.
 use Rattle.std.specs.Prelude.{◌≡◌, ◌⊎◌, ℕ, List, [], Option, Some, IfSome}
 use Rattle.std.specs.Io.KnownBytes.{Consumes}
+use Rattle.x86_streams.specs.declared.outside.joined.Joined.{Joined}
 use Rattle.x86_cli.specs.declared.commands.command.Command.{Command}
 use Rattle.x86_cli.specs.declared.listings.status.Status.{Status}
 use Rattle.x86_streams.specs.Outside.FaultCounts.{Rose}
@@ -15,9 +16,9 @@ pub record Streams : Type 0 where
   pub written : Option (List ℕ)
   pub sink_faults : ℕ
 
-abbrev pub streams_of : {S K : Type 0} → (S → Option (List ℕ)) → (S → ℕ) → (K → Option (List ℕ)) → (K → ℕ) → S → K → Streams
-streams_of left faults written others source sink =
-    record { left = left source; source_faults = faults source; written = written sink; sink_faults = others sink }
+abbrev pub streams_of : {S K : Type 0} → (S → Option (List ℕ)) → (S → ℕ) → (K → Option (List ℕ)) → (K → ℕ) → Joined S K → Streams
+streams_of left faults written others s =
+    record { left = left s.reader; source_faults = faults s.reader; written = written s.writer; sink_faults = others s.writer }
 
 -- The sink has the listing of all the bytes that the source has, where those are known.
 abbrev pub OfAll : Status → Command → Streams → Streams → Type 0

@@ -1,10 +1,12 @@
--- A listing by the grammar alone: sentence by sentence, up to where the bytes that are left begin with none.
-use Rattle.std.specs.Prelude.{◌≡◌, ℕ, ◌+◌, Bool, List, [], ◌∷◌, ◌++◌, length, Err}
+-- Listings and cuts by the grammar alone: sentence by sentence, up to where the bytes that are left begin with none, and past
+-- that byte by byte.
+use Rattle.std.specs.Prelude.{◌≡◌, ℕ, ◌+◌, Bool, List, [], ◌∷◌, ◌++◌, length, Result, Ok, Err}
 use Rattle.std.specs.List.{concat}
 use Rattle.x86_fields.specs.declared.errors.DecodeError.{DecodeError}
 use Rattle.x86_decode.specs.declared.instructions.Instruction.{Instruction}
 use Rattle.x86_decode.specs.Grammar.{IsSentence, IsAnswer}
 use Rattle.x86_decode.specs.Head.{Rows}
+use Rattle.x86_layout.specs.declared.sweeps.cuts.Cut.{Cut}
 use Rattle.x86_streams.specs.declared.text.reader.Ending.{Ending}
 use Rattle.x86_cli.specs.Listings.Line.{line}
 use Rattle.x86_cli.specs.Listings.Listing.{Listing, with_lines, at_end, at_refusal}
@@ -23,6 +25,18 @@ module _ (rows : Rows) (strict : Bool) where
   EndsListing place [] ending last = last ≡ at_end ending
   EndsListing place (x ∷ xs) ending last =
       (error : DecodeError) × (n : ℕ) × IsAnswer rows strict (x ∷ xs) (Err error) n × (last ≡ at_error place error ending)
+
+  -- What is left begins with this piece, and has this answer: a sentence, or one byte where it begins with none.
+  abbrev pub IsPiece : List ℕ → List ℕ → Result Instruction DecodeError → Type 0
+  IsPiece piece after (Ok i) = IsSentence rows strict piece i
+  IsPiece piece after (Err e) = (length piece ≡ 1) × (n : ℕ) × IsAnswer rows strict (piece ++ after) (Err e) n
+
+  -- The cuts are of such pieces, one after the other from a place on, and nothing is left after them.
+  abbrev pub AreCuts : ℕ → List ℕ → List Cut → Type 0
+  AreCuts place bytes [] = bytes ≡ []
+  AreCuts place bytes (c ∷ cuts) =
+      (piece : List ℕ) × (after : List ℕ) × (bytes ≡ piece ++ after) × IsPiece piece after c.answer
+      × (c.place ≡ place) × (c.length ≡ length piece) × AreCuts (place + length piece) after cuts
 
   module _ (text : ℕ → Instruction → List ℕ → List ℕ) where
     -- The lines of sentences that are one after the other from a place on.

@@ -1,5 +1,5 @@
 -- What a program does with its reader and its writer.
-use Rattle.std.specs.Prelude.{◌≡◌, ◌≢◌, ◌↔◌, ℕ, ◌<◌, Bool, false, IsTrue, List, [], ◌∷◌, ◌++◌, length, None, Result, ⊤}
+use Rattle.std.specs.Prelude.{◌≡◌, ◌≢◌, ◌↔◌, ℕ, ◌≤◌, Bool, false, IsTrue, List, [], ◌∷◌, ◌++◌, length, None, Result, ⊤}
 use Rattle.std.specs.List.{concat}
 use Rattle.std.specs.Io.{StartsWith}
 use Rattle.std.specs.declared.io.Error.{Error}
@@ -19,11 +19,11 @@ pub record Task : Type 0 where
   pub lists : Text → Listing
 
 -- The rule of reading. Each read was made where, should it fail, nothing were left to write but the line of a read
--- fault: what was read so far decides no more, and all that it decides was written and flushed. None follows the end of
+-- fault: what was read so far decides no more, and all that it decides was written and flushed. It has room for 64 KiB. None follows the end of
 -- the input, or an error. No call follows one of the writer that failed.
 abbrev pub ByRule : (known : Text → Listing) → (List ℕ → Stop → Text) → List Call → Type 0
 ByRule known text [] = ⊤
-ByRule known text (Read buffer answer ∷ cs) = ByRule known text cs × (0 < length buffer) × (stop_of cs ≡ None)
+ByRule known text (Read buffer answer ∷ cs) = ByRule known text cs × (65536 ≤ length buffer) × (stop_of cs ≡ None)
     × EndsIn IsFlush cs × ((lines : List (List ℕ)) × (known (text (received cs) Failed) ≡ with_lines lines (at_end Fault)) × (concat lines ≡ sent cs))
 ByRule known text (c ∷ cs) = ByRule known text cs × (EndsIn Fails cs → ⊥)
 
@@ -38,10 +38,10 @@ pub record IsPrinted (status : Status) (bytes following : List ℕ) (l : Listing
 -- The program did its task: its calls in one order, by the rule of reading. The writer took the listing of every text
 -- that begins with what was read, and a write that failed was to take what comes next of it. Where
 -- nothing is gathered, each write is of one line.
-pub record Performs {R W : Type 0} (reads : R → List ℕ → Result ℕ Error → R → Type 0) (writes : W → List ℕ → Result ℕ Error → W → Type 0)
-    (flushes : W → Result ⊤ Error → W → Type 0) (gathers : Bool) (task : Task) (outcome : Finished) (r r' : R) (w w' : W) : Type 0 where
+pub record Performs {O : Type 0} (reads : O → List ℕ → Result ℕ Error → O → Type 0) (writes : O → List ℕ → Result ℕ Error → O → Type 0)
+    (flushes : O → Result ⊤ Error → O → Type 0) (gathers : Bool) (task : Task) (outcome : Finished) (o o' : O) : Type 0 where
   pub calls : List Call
-  pub did : Calls reads writes flushes calls r r' w w'
+  pub did : Calls reads writes flushes calls o o'
   pub rule : ByRule task.known (text_at 0 task.max) calls
   pub flushed : outcome.status ≢ Status.WriteFault → EndsIn IsFlush calls
   pub failed : outcome.status ≡ Status.WriteFault → EndsIn Fails calls

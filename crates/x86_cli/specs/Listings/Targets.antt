@@ -27,10 +27,10 @@ EndsWhole max (Ok text) cs = AllContinue cs × ((xs : List ℕ) (stop : Stop) �
     text_of max (received cs ++ xs) stop ≡ record { image = text.image.items; ending = text.ending })
 EndsWhole max (Err f) cs = EndsIn Fails cs × (not_taken cs ≡ []) × (IsTrue f.gone ↔ EndsIn IsGone cs)
 
-pub record ReadsWhole {R W : Type 0} (reads : R → List ℕ → Result ℕ Error → R → Type 0) (writes : W → List ℕ → Result ℕ Error → W → Type 0)
-    (flushes : W → Result ⊤ Error → W → Type 0) (max : ℕ) (result : Result WholeText WriteFailed) (r r' : R) (w w' : W) : Type 0 where
+pub record ReadsWhole {O : Type 0} (reads : O → List ℕ → Result ℕ Error → O → Type 0) (writes : O → List ℕ → Result ℕ Error → O → Type 0)
+    (flushes : O → Result ⊤ Error → O → Type 0) (max : ℕ) (result : Result WholeText WriteFailed) (o o' : O) : Type 0 where
   pub calls : List Call
-  pub did : Calls reads writes flushes calls r r' w w'
+  pub did : Calls reads writes flushes calls o o'
   pub rule : ByRule (λ t. at_end t.ending) (text_of max) calls
   pub none : pieces calls ≡ []
   pub ends : EndsWhole max result calls

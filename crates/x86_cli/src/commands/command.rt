@@ -77,14 +77,9 @@ fn decoder(strict: bool) -> InstDecoder
 
 impl Command {
     /// Writes the listing of the reader's text.
-    pub fn run<R, W, O: Input<R> + Output<W>>(
-        self,
-        outside: &O,
-        reader: &mut R,
-        writer: &mut W,
-    ) -> Finished
+    pub fn run<E, O: Input<E> + Output<E>>(self, outside: &O, streams: &mut E) -> Finished
         ensures { Performs O.reads O.writes O.flushes O.gathers (task_of (Reads self)) result
-            reader.old reader.new writer.old writer.new }
+            streams.old streams.new }
     {
         let default = InstDecoder::default();
         let fields = UpToRefusal { lines: FieldLines };
@@ -92,12 +87,12 @@ impl Command {
         let plain = UpToRefusal { lines: Plain };
         match self {
             Command::List { strict } => {
-                list(&decoder(strict), &plain, TEXT_MAX, outside, reader, writer)
+                list(&decoder(strict), &plain, TEXT_MAX, outside, streams)
             }
-            Command::Fields => list(&default, &fields, TEXT_MAX, outside, reader, writer),
-            Command::Tighten => list(&default, &least, TEXT_MAX, outside, reader, writer),
-            Command::Sweep => list(&default, &PastRefusals, TEXT_MAX, outside, reader, writer),
-            Command::Targets => targets(&default, TARGETS_MAX, outside, reader, writer),
+            Command::Fields => list(&default, &fields, TEXT_MAX, outside, streams),
+            Command::Tighten => list(&default, &least, TEXT_MAX, outside, streams),
+            Command::Sweep => list(&default, &PastRefusals, TEXT_MAX, outside, streams),
+            Command::Targets => targets(&default, TARGETS_MAX, outside, streams),
         }
     }
 }

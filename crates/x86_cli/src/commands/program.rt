@@ -1,30 +1,26 @@
 //! Programs over a reader and a writer, and over a source and a sink.
 
-ghost use Rattle.std.specs.Prelude.{◌≡◌, ◌↔◌, map, string_bytes};
+ghost use Rattle.std.specs.Prelude.{◌≡◌, ◌↔◌, false, map, string_bytes};
 ghost use Rattle.x86_cli.specs.Commands.Request.{Denotes, Runs, task_of};
 ghost use Rattle.x86_cli.specs.Listings.Performs.{IsEnd, Performs, Task};
+ghost use Rattle.x86_streams.specs.Outside.Joined.{joined_of};
 ghost use Rattle.x86_streams.specs.Text.{Text};
 
 use crate::commands::make::make;
 use crate::commands::request::{Request, request_of};
 use crate::listings::status::{Finished, Status};
-use x86_streams::{Input, OneByOne, Output, Sink, Source};
+use x86_streams::{Input, Joined, OneByOne, Output, Sink, Source};
 
 /// What lists a text.
 pub trait Program {
     /// What it lists of a text, what of that is known whatever follows the text, and the most bytes that are read.
     ghost task: { Self → Task };
 
-    /// Writes the listing of the reader's text. What is written is gathered in a buffer of 64 KiB, and flushed before
-    /// each read and at the end. The clause `performs` names each call, for every reader and writer.
-    fn run<R, W, O: Input<R> + Output<W>>(
-        &self,
-        outside: &O,
-        reader: &mut R,
-        writer: &mut W,
-    ) -> Finished
+    /// Writes the listing of the text that is read. What is written is gathered in a buffer of 64 KiB, and flushed
+    /// before each read and at the end. The clause `performs` names each call in its order, for all streams.
+    fn run<E, O: Input<E> + Output<E>>(&self, outside: &O, streams: &mut E) -> Finished
         ensures performs { Performs O.reads O.writes O.flushes O.gathers (task self.now) result
-            reader.old reader.new writer.old writer.new }
+            streams.old streams.new }
         ensures ends { (t : Text) → IsEnd ((task self.now).lists t).status };
 }
 
@@ -32,21 +28,16 @@ impl Program for Request {
     ghost task = { λ s. task_of s };
 
     #[tactic(auto, using(crate::proofs::CommandLemmas::Ends::task_ends))]
-    fn run<R, W, O: Input<R> + Output<W>>(
-        &self,
-        outside: &O,
-        reader: &mut R,
-        writer: &mut W,
-    ) -> Finished {
+    fn run<E, O: Input<E> + Output<E>>(&self, outside: &O, streams: &mut E) -> Finished {
         match *self {
-            Request::Reads(command) => command.run(outside, reader, writer),
-            Request::Makes(count) => make(count, outside, writer),
+            Request::Reads(command) => command.run(outside, streams),
+            Request::Makes(count) => make(count, outside, streams),
         }
     }
 }
 
-/// Does what the words request, over a reader and a writer. The clause `lists` names each call, for every reader and
-/// writer, files and pipes too:
+/// Does what the words request, over streams that are read and written: a reader and a writer, as one state. The clause
+/// `lists` names each call in its order, for all such streams, files and pipes too:
 ///
 /// - `Done`: the writer took the whole listing. The reads of a command end with one that returned no byte; `make` makes
 ///   none.
@@ -60,22 +51,21 @@ impl Program for Request {
 /// interrupted is made again. Before each read, all lines that the bytes so far decide were written and flushed. After a
 /// refusal, the end, an error or a failed write nothing is read. That `Process` passes each call on to std's is checked
 /// by inspection.
-pub fn listed<R, W, O: Input<R> + Output<W>>(
+pub fn listed<E, O: Input<E> + Output<E>>(
     words: &[String],
     outside: &O,
-    reader: &mut R,
-    writer: &mut W,
+    streams: &mut E,
 ) -> Finished
     ensures lists { (request : Request) → Denotes (map string_bytes words.now) request
         → Performs O.reads O.writes O.flushes O.gathers (task_of request) result
-        reader.old reader.new writer.old writer.new }
+        streams.old streams.new }
     ensures usage { (result.status ≡ Status.Usage)
         ↔ ((request : Request) → Denotes (map string_bytes words.now) request → ⊥) }
     ensures nothing { result.status ≡ Status.Usage
-        → (reader.new ≡ reader.old) × (writer.new ≡ writer.old) }
+        → (streams.new ≡ streams.old) × (result.gone ≡ false) }
 {
     match request_of(words) {
-        Some(request) => request.run(outside, reader, writer),
+        Some(request) => request.run(outside, streams),
         None => Finished {
             status: Status::Usage,
             gone: false,
@@ -98,11 +88,16 @@ pub fn listed<R, W, O: Input<R> + Output<W>>(
 /// and `write_faults` of faults, `exact`, `unrefused` and `complete` of statuses.
 pub fn run<S: Source, K: Sink>(words: &[String], source: &mut S, sink: &mut K) -> Status
     ensures ran { (request : Request) → Denotes (map string_bytes words.now) request
-        → Runs S.gives K.takes request result source.old source.new sink.old sink.new }
+        → Runs S.gives K.takes request result
+        (joined_of source.old sink.old) (joined_of source.new sink.new) }
     ensures usage { (result ≡ Status.Usage)
         ↔ ((request : Request) → Denotes (map string_bytes words.now) request → ⊥) }
     ensures nothing { result ≡ Status.Usage
         → (source.new ≡ source.old) × (sink.new ≡ sink.old) }
 {
-    listed(words, &OneByOne, source, sink).status
+    let mut streams = Joined {
+        reader: &mut *source,
+        writer: &mut *sink,
+    };
+    listed(words, &OneByOne, &mut streams).status
 }

@@ -195,13 +195,12 @@ impl<L: Lines + Drop> Course<LINE_ROOM> for UpToRefusal<L> {
 
 /// Writes the listing of the reader's text. Each line is gathered as soon as it is decided. A read is made only where what
 /// was read decides no more, once all that was gathered is sent.
-pub fn list<const N: usize, C: Course<N>, R, W, O: Input<R> + Output<W>>(
+pub fn list<const N: usize, C: Course<N>, E, O: Input<E> + Output<E>>(
     decoder: &InstDecoder,
     course: &C,
     max: u64,
     outside: &O,
-    reader: &mut R,
-    writer: &mut W,
+    streams: &mut E,
 ) -> Finished
     requires size { N ≤ 65536 }
     requires max { max < 2 ^ 62 }
@@ -209,8 +208,7 @@ pub fn list<const N: usize, C: Course<N>, R, W, O: Input<R> + Output<W>>(
       max = max;
       known = C.knows course.now (is_strict decoder.now) 0;
       lists = C.lists course.now (is_strict decoder.now) 0;
-    }) result
-        reader.old reader.new writer.old writer.new }
+    }) result streams.old streams.new }
 {
     let mut window = Window::new(max);
     let mut out = Gathered::new();
@@ -221,7 +219,7 @@ pub fn list<const N: usize, C: Course<N>, R, W, O: Input<R> + Output<W>>(
         window.take_known();
         match course.next(decoder, &window, &place, &mut inst, &mut line) {
             Entry::Line(length) => {
-                match put_line(outside, &mut out, writer, &mut line) {
+                match put_line(outside, &mut out, streams, &mut line) {
                     Ok(()) => {}
                     Err(failed) => return Finished::of_failed(failed),
                 }
@@ -230,18 +228,18 @@ pub fn list<const N: usize, C: Course<N>, R, W, O: Input<R> + Output<W>>(
             }
             Entry::Undecided => {
                 if !window.step() {
-                    match out.send_all(outside, writer) {
+                    match out.send_all(outside, streams) {
                         Ok(()) => {}
                         Err(failed) => return Finished::of_failed(failed),
                     }
-                    window.fill(outside, reader);
+                    window.fill(outside, streams);
                 }
             }
             Entry::Refused(error) => {
                 let text = refusal_of(place.number(), error);
-                return put_last(outside, &mut out, writer, text, Status::Refused);
+                return put_last(outside, &mut out, streams, text, Status::Refused);
             }
-            Entry::Ended(ending) => return end(outside, &mut out, writer, ending),
+            Entry::Ended(ending) => return end(outside, &mut out, streams, ending),
         }
     }
 }

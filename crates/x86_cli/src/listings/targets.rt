@@ -42,15 +42,13 @@ fn append(image: &mut ArrayVec<u8, IMAGE_MAX>, window: &Window) -> usize
 
 /// Reads a text to its end. Each byte of the image takes at least two bytes of text. The writer is flushed before each
 /// read.
-fn read_whole<R, W, O: Input<R> + Output<W>>(
+fn read_whole<E, O: Input<E> + Output<E>>(
     max: u64,
     outside: &O,
-    reader: &mut R,
-    writer: &mut W,
+    streams: &mut E,
 ) -> Result<WholeText, WriteFailed>
     requires { max ≤ 2 * image_max }
-    ensures { ReadsWhole O.reads O.writes O.flushes max result
-        reader.old reader.new writer.old writer.new }
+    ensures { ReadsWhole O.reads O.writes O.flushes max result streams.old streams.new }
 {
     let mut image = ArrayVec::new();
     let mut window = Window::new(max);
@@ -62,8 +60,8 @@ fn read_whole<R, W, O: Input<R> + Output<W>>(
             return Ok(WholeText { image, ending });
         }
         if !window.step() {
-            match flush_out(outside, writer) {
-                Ok(()) => window.fill(outside, reader),
+            match flush_out(outside, streams) {
+                Ok(()) => window.fill(outside, streams),
                 Err(failed) => return Err(failed),
             }
         }
@@ -80,22 +78,20 @@ fn mark(decoder: &InstDecoder, image: &[u8], marks: &mut [bool; IMAGE_MAX])
 }
 
 /// Writes the places that the instructions of a text branch to, of a text that is short enough to be held whole.
-pub fn targets<R, W, O: Input<R> + Output<W>>(
+pub fn targets<E, O: Input<E> + Output<E>>(
     decoder: &InstDecoder,
     max: u64,
     outside: &O,
-    reader: &mut R,
-    writer: &mut W,
+    streams: &mut E,
 ) -> Finished
     requires { max ≤ 2 * image_max }
     ensures { Performs O.reads O.writes O.flushes O.gathers (record {
       max = max;
       known = λ t. at_end t.ending;
       lists = targets_at (is_strict decoder.now) 0;
-    }) result
-        reader.old reader.new writer.old writer.new }
+    }) result streams.old streams.new }
 {
-    let text = match read_whole(max, outside, reader, writer) {
+    let text = match read_whole(max, outside, streams) {
         Ok(text) => text,
         Err(failed) => return Finished::of_failed(failed),
     };
@@ -107,11 +103,11 @@ pub fn targets<R, W, O: Input<R> + Output<W>>(
         if marks[place] {
             let mut line = Line::new();
             line.push_u64(place as u64);
-            match put_line(outside, &mut out, writer, &mut line) {
+            match put_line(outside, &mut out, streams, &mut line) {
                 Ok(()) => {}
                 Err(failed) => return Finished::of_failed(failed),
             }
         }
     }
-    end(outside, &mut out, writer, text.ending)
+    end(outside, &mut out, streams, text.ending)
 }

@@ -1,11 +1,12 @@
--- The calls of a reader and a writer, in one order.
-use Rattle.std.specs.Prelude.{◌≡◌, ℕ, zero, suc, ◌<◌, ◌≤◌, Bool, IsTrue, false, ◌↔◌, List, [], ◌∷◌, ◌++◌, length, take, Option, Some, None, Result, Ok, Err, IfErr, OnOk, ⊤}
+-- The calls of what is read from and written to, in one order.
+use Rattle.std.specs.Prelude.{◌≡◌, ℕ, zero, suc, ◌+◌, ◌<◌, ◌≤◌, Bool, IsTrue, true, false, ◌↔◌, List, [], ◌∷◌, ◌++◌, length, take, Option, Some, None, Result, Ok, Err, IfErr, IsErr, OnErr, OnOk, ⊤}
 use Rattle.std.specs.Io.{StartsWith}
 use Rattle.std.specs.declared.io.Error.{Error}
 use Rattle.std.specs.declared.io.ErrorKind.TheVariants.{Interrupted, BrokenPipe}
 use Rattle.std.specs.IoError.{error_kind}
 use Rattle.x86_streams.specs.Outside.Stop.{Stop, End, Failed}
 use Rattle.x86_streams.specs.declared.outside.sending.WriteFailed.{WriteFailed}
+use Rattle.x86_streams.specs.declared.outside.sink.SinkFailed.{SinkFailed}
 
 -- A call and its answer, and of a read what is in its buffer then. It was made again where a signal interrupted it.
 pub data Call : Type 0 where
@@ -98,14 +99,14 @@ WritesOnce writes bytes answer w w' = Uninterrupted (λ u e v. writes u bytes (E
 abbrev pub FlushesOnce : {W : Type 0} → (W → Result ⊤ Error → W → Type 0) → Result ⊤ Error → W → W → Type 0
 FlushesOnce flushes answer w w' = Uninterrupted (λ u e v. flushes u (Err e) v) flushes answer w w'
 
-module _ {R W : Type 0} (reads : R → List ℕ → Result ℕ Error → R → Type 0) (writes : W → List ℕ → Result ℕ Error → W → Type 0)
-    (flushes : W → Result ⊤ Error → W → Type 0) where
-  -- These calls, the last first, led from the one state of reader and writer to the other.
-  abbrev pub Calls : List Call → R → R → W → W → Type 0
-  Calls [] r r' w w' = (r' ≡ r) × (w' ≡ w)
-  Calls (Read buffer answer ∷ cs) r r' w w' = (u : R) × Calls cs r u w w' × ReadsOnce reads buffer answer u r'
-  Calls (Write bytes answer ∷ cs) r r' w w' = (v : W) × Calls cs r r' w v × WritesOnce writes bytes answer v w'
-  Calls (Flush answer ∷ cs) r r' w w' = (v : W) × Calls cs r r' w v × FlushesOnce flushes answer v w'
+module _ {O : Type 0} (reads : O → List ℕ → Result ℕ Error → O → Type 0) (writes : O → List ℕ → Result ℕ Error → O → Type 0)
+    (flushes : O → Result ⊤ Error → O → Type 0) where
+  -- These calls, the last first, led from the one state to the other: each from where the call before it left that.
+  abbrev pub Calls : List Call → O → O → Type 0
+  Calls [] o o' = o' ≡ o
+  Calls (Read buffer answer ∷ cs) o o' = (u : O) × Calls cs o u × ReadsOnce reads buffer answer u o'
+  Calls (Write bytes answer ∷ cs) o o' = (u : O) × Calls cs o u × WritesOnce writes bytes answer u o'
+  Calls (Flush answer ∷ cs) o o' = (u : O) × Calls cs o u × FlushesOnce flushes answer u o'
 
 -- ---- what a buffer sends
 
@@ -125,13 +126,14 @@ Cause (Ok x) cs = AllContinue cs
 Cause (Err e) [] = ⊥
 Cause (Err e) (c ∷ cs) = Fails c × AllContinue cs
 
+-- No read may be made.
+abbrev pub NoRead : {O : Type 0} → O → List ℕ → Result ℕ Error → O → Type 0
+NoRead o buffer answer o' = ⊥
+
 module _ {W : Type 0} (writes : W → List ℕ → Result ℕ Error → W → Type 0) (flushes : W → Result ⊤ Error → W → Type 0) where
-  -- These calls of the writer led from the one state to the other.
+  -- These calls, of which none is a read, led from the one state to the other.
   abbrev pub WriterCalls : List Call → W → W → Type 0
-  WriterCalls [] w w' = w' ≡ w
-  WriterCalls (Read buffer answer ∷ cs) w w' = ⊥
-  WriterCalls (Write bytes answer ∷ cs) w w' = (v : W) × WriterCalls cs w v × WritesOnce writes bytes answer v w'
-  WriterCalls (Flush answer ∷ cs) w w' = (v : W) × WriterCalls cs w v × FlushesOnce flushes answer v w'
+  WriterCalls = Calls NoRead writes flushes
 
   -- The writer took, in order, what was held and what is new; the rest is held. A write that failed was to take what is
   -- held first.
@@ -142,6 +144,10 @@ module _ {W : Type 0} (writes : W → List ℕ → Result ℕ Error → W → Ty
     pub order : sent calls ++ held' ≡ held ++ new
     pub failed : IfErr answer (λ f. StartsWith held' (not_taken calls) × (IsTrue f.gone ↔ EndsIn IsGone calls))
 
+  -- A put of a piece is its writes, and fails exactly where one of them did.
+  abbrev pub PutsByWrites : Result ⊤ SinkFailed → List ℕ → W → W → Type 0
+  PutsByWrites r piece w w' = (answer : Result ⊤ WriteFailed) × (rest : List ℕ) × Sends answer [] piece rest w w' × OnOk answer (rest ≡ []) × (IsErr r ↔ IsErr answer)
+
   -- All that was held is sent, and the writer is flushed. Where nothing was held, nothing is written.
   abbrev pub SendsAll : Result ⊤ WriteFailed → List ℕ → List ℕ → W → W → Type 0
   SendsAll answer held held' w w' = (s : Sends answer [] held held' w w') × OnOk answer ((held' ≡ []) × EndsIn IsFlush s.calls) × (held ≡ [] → pieces s.calls ≡ [])
@@ -151,4 +157,6 @@ module _ {W : Type 0} (writes : W → List ℕ → Result ℕ Error → W → Ty
     pub rest : List ℕ
     pub sends : Sends answer piece old rest w w'
     pub held : OnOk answer (new ≡ rest)
+    pub kept : OnErr answer (rest ≡ new ++ piece)
+    pub waits : gathers ≡ true → length old + length piece ≤ 65536 → sends.calls ≡ []
     pub once : gathers ≡ false → (pieces sends.calls ≡ piece ∷ []) × OnOk answer (rest ≡ [])

@@ -1,5 +1,5 @@
 -- What contracts see of a reader of text, and what a read of it says.
-use Rattle.std.specs.Prelude.{◌≡◌, ℕ, ◌<◌, List, ◌++◌, length, Result}
+use Rattle.std.specs.Prelude.{◌≡◌, ℕ, ◌≤◌, List, ◌++◌, length, Result}
 use Rattle.std.specs.declared.io.Error.{Error}
 use Rattle.x86_streams.specs.Outside.Chain.{ReadsOnce, taken_by}
 
@@ -9,9 +9,9 @@ pub record TextPosition : Type 0 where
   pub room : ℕ
   pub unread : List ℕ
 
--- A read was made, into a buffer with room, and what it returned is after what was left.
+-- A read of 64 KiB was made, and what it returned is after what was left.
 pub record ReadsBlock {R : Type 0} (reads : R → List ℕ → Result ℕ Error → R → Type 0) (answer : Result ℕ Error) (old new : List ℕ) (r r' : R) : Type 0 where
   pub buffer : List ℕ
-  pub some : 0 < length buffer
+  pub block : 65536 ≤ length buffer
   pub answered : ReadsOnce reads buffer answer r r'
   pub unread : new ≡ old ++ taken_by answer buffer

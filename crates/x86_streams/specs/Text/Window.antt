@@ -66,7 +66,7 @@ pub record Steps (window : List ℕ) (text : TextPosition) (ended' : Option Endi
 -- A read was made, and what it returned is after what was left, or the text ended.
 pub record Fills {R : Type 0} (reads : R → List ℕ → Result ℕ Error → R → Type 0) (window : List ℕ) (text : TextPosition) (ended' : Option Ending) (text' : TextPosition) (r r' : R) : Type 0 where
   pub buffer : List ℕ
-  pub some : 0 < length buffer
+  pub block : 65536 ≤ length buffer
   pub answer : Result ℕ Error
   pub answered : ReadsOnce reads buffer answer r r'
   pub stop : ended' ≡ None → stop_of (Read buffer answer ∷ []) ≡ None

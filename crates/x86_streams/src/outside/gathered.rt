@@ -41,7 +41,7 @@ impl Gathered {
     /// Takes a piece. Where it doesn't fit, what was gathered is sent first. An output that doesn't gather is written at
     /// once.
     #[inline(always)]
-    #[tactic(auto, using(crate::proofs::OutsideLemmas::Calls::puts_new))]
+    #[tactic(auto, using(crate::proofs::OutsideLemmas::Calls::puts_new, crate::proofs::OutsideLemmas::Calls::puts_fitting))]
     pub fn put<W, O: Output<W>>(
         &mut self,
         output: &O,

@@ -1,6 +1,6 @@
 //! What a listing is written to.
 
-ghost use Rattle.std.specs.Prelude.{ℕ, List, Option, Result, ⊤};
+ghost use Rattle.std.specs.Prelude.{◌≡◌, ℕ, List, Option, Result, ⊤};
 ghost use Rattle.x86_streams.specs.Outside.Sink.{ReportsPut};
 ghost use Rattle.x86_streams.specs.declared.outside.sink.SinkFailed.{SinkFailed};
 
@@ -26,4 +26,19 @@ pub trait Sink {
     /// What a put says, where the sink's bytes are known.
     ghost reports: { (s : Self) (piece : List ℕ) (r : Result ⊤ SinkFailed) (t : Self) →
         takes s piece r t → ReportsPut r piece (written s) (written t) (faults s) (faults t) };
+}
+
+/// A sink that is lent: its calls are those of the sink.
+impl<K: Sink> Sink for &mut K {
+    ghost written = { λ s. K.written s.now };
+
+    ghost faults = { λ s. K.faults s.now };
+
+    ghost takes = { λ s piece r t. K.takes s.now piece r t.now × (t.ghost_name ≡ s.ghost_name) };
+
+    ghost reports = { λ s piece r t h. K.reports s.now piece r t.now h.0 };
+
+    fn put(&mut self, piece: &[u8]) -> Result<(), SinkFailed> {
+        (**self).put(piece)
+    }
 }

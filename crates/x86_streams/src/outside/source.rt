@@ -1,6 +1,6 @@
 //! What a text is read from.
 
-ghost use Rattle.std.specs.Prelude.{ℕ, List, Option};
+ghost use Rattle.std.specs.Prelude.{◌≡◌, ℕ, List, Option};
 ghost use Rattle.x86_streams.specs.Outside.Source.{ReportsGot};
 ghost use Rattle.x86_streams.specs.declared.outside.source.Got.{Got};
 
@@ -33,4 +33,19 @@ pub trait Source {
     /// What a call says, where the source's bytes are known.
     ghost reports: { (s : Self) (g : Got) (t : Self) → gives s g t →
         ReportsGot g (left s) (left t) (faults s) (faults t) };
+}
+
+/// A source that is lent: its calls are those of the source.
+impl<S: Source> Source for &mut S {
+    ghost left = { λ s. S.left s.now };
+
+    ghost faults = { λ s. S.faults s.now };
+
+    ghost gives = { λ s g t. S.gives s.now g t.now × (t.ghost_name ≡ s.ghost_name) };
+
+    ghost reports = { λ s g t h. S.reports s.now g t.now h.0 };
+
+    fn next(&mut self) -> Got {
+        (**self).next()
+    }
 }

@@ -1,10 +1,10 @@
 //! A source over a reader.
 
-ghost use Rattle.std.specs.Prelude.{◌≡◌, ◌≤◌};
+ghost use Rattle.std.specs.Prelude.{◌≡◌, ◌≤◌, []};
 ghost use Rattle.std.specs.Io.KnownBytes.{prepend_known};
-ghost use Rattle.x86_streams.specs.Outside.Source.{ReportsGot};
+ghost use Rattle.x86_streams.specs.Outside.Source.{CountsFailed, ReportsGot, ReturnsNext};
 
-use crate::outside::input::read_some;
+use crate::outside::input::{Input, read_some};
 use crate::outside::process::Process;
 use crate::outside::source::{Got, Source};
 use std::io::Read;
@@ -26,13 +26,14 @@ pub struct StdSource<R: Read + Drop> {
 }
 
 impl<R: Read + Drop> StdSource<R> {
-    ghost use Rattle.x86_streams.specs.Outside.Seen.{source_reader};
+    ghost use Rattle.x86_streams.specs.Outside.Seen.{source_reader, source_bytes};
 
     /// A source over the reader, with nothing read.
     pub fn new(reader: R) -> StdSource<R>
         ensures bytes { ⟦<StdSource<R> as Source>⟧.left result ≡ R.remaining reader }
         ensures sound { ⟦<StdSource<R> as Source>⟧.faults result ≡ 0 }
         ensures reader { source_reader result ≡ reader }
+        ensures empty { source_bytes result ≡ [] }
     {
         StdSource {
             reader,
@@ -60,11 +61,13 @@ impl<R: Read + Drop> StdSource<R> {
     /// Reads on, where no byte of the buffer is left, and returns the first byte that was read.
     #[cold]
     #[inline(never)]
-    fn read_on(&mut self) -> Got
+    fn read_on<I: Input<R>>(&mut self, input: &I) -> Got
         requires { self.old.position ≡ self.old.filled }
-        ensures { ⟦<StdSource<R> as Source>⟧.gives self.old result self.new }
+        ensures calls { ReturnsNext I.reads (source_bytes self.old) result (source_bytes self.new)
+            self.old.reader self.new.reader }
+        ensures faults { CountsFailed result self.old.faults self.new.faults }
     {
-        match read_some(&Process, &mut self.reader, &mut self.buffer) {
+        match read_some(input, &mut self.reader, &mut self.buffer) {
             Ok(0) => Got::End,
             Ok(count) => {
                 self.position = 1;
@@ -77,6 +80,21 @@ impl<R: Read + Drop> StdSource<R> {
             }
         }
     }
+
+    /// The next byte, by reads of `input`.
+    #[inline(always)]
+    fn next_by<I: Input<R>>(&mut self, input: &I) -> Got
+        ensures calls { ReturnsNext I.reads (source_bytes self.old) result (source_bytes self.new)
+            self.old.reader self.new.reader }
+        ensures faults { CountsFailed result self.old.faults self.new.faults }
+    {
+        if self.position == self.filled {
+            return self.read_on(input);
+        }
+        let byte = self.buffer[self.position];
+        self.position += 1;
+        Got::Byte(byte)
+    }
 }
 
 impl<R: Read + Drop> Source for StdSource<R> {
@@ -87,17 +105,14 @@ impl<R: Read + Drop> Source for StdSource<R> {
     ghost faults = { λ s. s.faults };
 
     ghost gives = { λ s g t. ReportsGot g (prepend_known (source_bytes s) (R.remaining s.reader))
-        (prepend_known (source_bytes t) (R.remaining t.reader)) s.faults t.faults };
+        (prepend_known (source_bytes t) (R.remaining t.reader)) s.faults t.faults
+        × ReturnsNext ⟦<Process as Input<R>>⟧.reads (source_bytes s) g (source_bytes t)
+        s.reader t.reader };
 
-    ghost reports = { λ s g t h. h };
+    ghost reports = { λ s g t h. h.0 };
 
     #[inline(always)]
     fn next(&mut self) -> Got {
-        if self.position == self.filled {
-            return self.read_on();
-        }
-        let byte = self.buffer[self.position];
-        self.position += 1;
-        Got::Byte(byte)
+        self.next_by(&Process)
     }
 }

@@ -2,4 +2,4 @@ use Rattle.x86_cli.proofs.CommandLemmas.Ends.{unrefused}
 use Rattle.x86_cli.proofs.laws.unrefused.Goals as goal
 
 pub returns : goal.returns
-returns g c command status a b k l runs goes = unrefused _ _ _ _ command _ a b k l runs.1 goes
+returns g c command status a b runs goes = unrefused _ _ _ _ command _ a b runs.1 goes
