@@ -107,13 +107,8 @@ impl Course<ROOM> for ShowAt {
 impl Program for ShowAt {
     ghost task = { λ s. showing s.base };
 
-    fn run<R, W, O: Input<R> + Output<W>>(
-        &self,
-        outside: &O,
-        reader: &mut R,
-        writer: &mut W,
-    ) -> Finished {
+    fn run<E, O: Input<E> + Output<E>>(&self, outside: &O, streams: &mut E) -> Finished {
         let decoder = InstDecoder::default();
-        list(&decoder, self, u64::MAX / 4, outside, reader, writer)
+        list(&decoder, self, u64::MAX / 4, outside, streams)
     }
 }

@@ -11,7 +11,7 @@ mod text;
 use program::{finish, shown};
 use std::process::ExitCode;
 use std::{env, io};
-use x86_cli::{Process, words};
+use x86_cli::{Joined, Process, words};
 
 /// The words after the program's name.
 fn arguments(rt: &HostRuntime) -> io::Result<Vec<String>> {
@@ -22,8 +22,11 @@ fn main(rt: HostRuntime) -> ExitCode {
     match arguments(&rt) {
         Err(_) => ExitCode::from(1),
         Ok(words) => {
-            let (mut reader, mut writer) = (rt.reader(), io::writer(&rt));
-            let outcome = shown(words.as_slice(), &Process, &mut reader, &mut writer);
+            let mut streams = Joined {
+                reader: rt.reader(),
+                writer: io::writer(&rt),
+            };
+            let outcome = shown(words.as_slice(), &Process, &mut streams);
             finish(outcome, &Process, &mut rt.stderr())
         }
     }

@@ -1,6 +1,6 @@
 //! The program over its words, a reader and a writer.
 
-ghost use Rattle.std.specs.Prelude.{◌≡◌, ◌↔◌, None, IfSome, map, string_bytes};
+ghost use Rattle.std.specs.Prelude.{◌≡◌, ◌↔◌, None, IfSome, false, map, string_bytes};
 ghost use Rattle.std.specs.Process.{exit_status};
 ghost use Rattle.x86_cli.specs.Commands.Process.{Reports};
 ghost use Rattle.x86_cli.specs.Listings.Performs.{Performs};
@@ -47,21 +47,16 @@ pub fn base_in(words: &[String]) -> Option<u64>
 
 /// Shows the hex text of a reader, whose image begins at the address that the words say. What is written is gathered in
 /// a buffer, and sent and flushed before each read and at the end.
-pub fn shown<R, W, O: Input<R> + Output<W>>(
-    words: &[String],
-    outside: &O,
-    reader: &mut R,
-    writer: &mut W,
-) -> Finished
+pub fn shown<E, O: Input<E> + Output<E>>(words: &[String], outside: &O, streams: &mut E) -> Finished
     ensures performs { IfSome (base_in (map string_bytes words.now))
         (λ base. Performs O.reads O.writes O.flushes O.gathers (showing base) result
-        reader.old reader.new writer.old writer.new) }
+        streams.old streams.new) }
     ensures usage { (result.status ≡ Status.Usage) ↔ (base_in (map string_bytes words.now) ≡ None) }
     ensures nothing { result.status ≡ Status.Usage
-        → (reader.new ≡ reader.old) × (writer.new ≡ writer.old) }
+        → (streams.new ≡ streams.old) × (result.gone ≡ false) }
 {
     match base_in(words) {
-        Some(base) => ShowAt { base }.run(outside, reader, writer),
+        Some(base) => ShowAt { base }.run(outside, streams),
         None => Finished {
             status: Status::Usage,
             gone: false,

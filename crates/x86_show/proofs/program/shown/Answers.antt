@@ -11,7 +11,7 @@ pub returns-in-Some-clause-performs : goal.returns-in-Some-clause-performs
 returns-in-Some-clause-performs g c = rw (← c.base_in.ensures, c.in-Some.is) c.run.ensures.performs
 
 pub returns-in-Some-clause-usage : goal.returns-in-Some-clause-usage
-returns-in-Some-clause-usage g c = usage (sym c.base_in.ensures ∙ c.in-Some.is) (performs_used _ _ _ _ _ _ _ _ _ _ c.run.ensures.ends c.run.ensures.performs)
+returns-in-Some-clause-usage g c = usage (sym c.base_in.ensures ∙ c.in-Some.is) (performs_used _ _ _ _ _ _ _ _ c.run.ensures.ends c.run.ensures.performs)
 
 pub returns-in-Some-clause-nothing : goal.returns-in-Some-clause-nothing
-returns-in-Some-clause-nothing g c = λ e. absurd (performs_used _ _ _ _ _ _ _ _ _ _ c.run.ensures.ends c.run.ensures.performs e)
+returns-in-Some-clause-nothing g c = λ e. absurd (performs_used _ _ _ _ _ _ _ _ c.run.ensures.ends c.run.ensures.performs e)
