@@ -1,12 +1,12 @@
 /* The head of an encoding. */
-#include "judge.h"
+#include "code.h"
 #include <stdio.h>
 
-static bool is_legacy(int byte)
+bool is_prefix(int byte)
 {
     switch (byte) {
     case 0x66: case 0x67: case 0xf0: case 0xf2: case 0xf3: case 0x26: case 0x2e: case 0x36: case 0x3e: case 0x64: case 0x65: return true;
-    default: return false;
+    default: return (byte & 0xf0) == 0x40;
     }
 }
 
@@ -14,9 +14,9 @@ struct code code_of(const unsigned char *bytes, size_t left)
 {
     struct code code = {.bytes = bytes, .left = left, .opcode = -1, .modrm = -1};
     size_t at = 0;
-    for (; at < left && (is_legacy(bytes[at]) || (bytes[at] & 0xf0) == 0x40); at++) {
+    for (; at < left && is_prefix(bytes[at]); at++) {
         int byte = bytes[at];
-        code.rex = is_legacy(byte) ? 0 : byte;
+        code.rex = (byte & 0xf0) == 0x40 ? byte : 0;
         if (byte == 0x66) code.p66 = true;
         if (byte == 0x67) code.p67 = true;
         if (byte == 0xf0) code.lock = true;

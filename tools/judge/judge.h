@@ -2,27 +2,10 @@
 #ifndef JUDGE_H
 #define JUDGE_H
 
+#include "code.h"
 #include <Zydis/Zydis.h>
-#include <stdbool.h>
-#include <stddef.h>
 
-enum { MAPS = 4, OPERANDS = 5, LONGEST = 15 };
-enum column { PLAIN, P66, F3, F2, COLUMNS };
-
-/* The head of an encoding, read here and not by zydis: the run of prefixes, the escape, the opcode byte and ModRM. */
-struct code {
-    const unsigned char *bytes;
-    size_t left;          /* how many bytes there are */
-    size_t run;           /* how many of them are prefixes */
-    bool p66, p67, lock;  /* 66, 67 and F0 are in the run */
-    int repeat, segment;  /* the last of F2 and F3, the last of 64 and 65, or 0 */
-    int rex;              /* the REX byte at the end of the run, or 0 */
-    int map;              /* 0, 0F, 0F38, 0F3A */
-    int opcode, modrm;    /* -1 where the bytes end before */
-    size_t front;         /* how many bytes there are up to the opcode byte, that one included */
-    enum column column;
-};
-
+enum { OPERANDS = 5, LONGEST = 15, MOST_AFTER_OPCODE = 7 };      /* ModRM, SIB, a displacement, and a byte */
 struct operand {
     enum { REGISTER, MEMORY, IMMEDIATE, TEXT } kind;
     ZydisRegister reg;               /* REGISTER; the base of MEMORY */
@@ -37,7 +20,8 @@ struct operand {
 
 /* A line of the listing, as it is expected. */
 struct reading {
-    const char *refusal;             /* why it is refused, or NULL */
+    const char *refusals[4];         /* why it may be refused: the errors that may be there, and NULL; none where it is an instruction */
+    const char *refusal;             /* the one of them that the line has, or NULL */
     size_t length;
     char name[32];
     int count, size;                 /* operands; bytes of memory, or UNDECIDED */
@@ -47,14 +31,6 @@ struct reading {
 };
 
 enum { UNDECIDED = 63 };
-
-/* code.c */
-struct code code_of(const unsigned char *bytes, size_t left);
-bool has_w(const struct code *code);
-bool is_string(const struct code *code);
-int v_bytes(const struct code *code);
-size_t spell(const struct code *code, unsigned char *out, size_t *front);
-const char *row_name(int map, int opcode, enum column column);
 
 /* reading.c */
 bool decode(const ZydisDecoder *decoder, const unsigned char *bytes, size_t left, struct reading *reading, ZyanStatus *status);
@@ -76,6 +52,6 @@ void print_names(void);
 void change(const struct code *code, struct reading *reading, const char *words);
 
 /* refusals.c */
-const char *refusal_of(const ZydisDecoder *decoder, const struct code *code, const struct code *other, ZyanStatus status);
+void refuse(const ZydisDecoder *decoder, const struct code *code, const struct code *other, ZyanStatus status, struct reading *reading);
 
 #endif

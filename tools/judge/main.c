@@ -6,7 +6,7 @@
  *     reason COUNT ROW REASON                        for each reason at each row
  *     counts LINES ACCEPTED REFUSED UNEXPLAINED
  *
- * each with tabs between. `judge reasons` prints the names of all reasons, `judge version` that of zydis.
+ * each with tabs between. `judge reasons` prints the names of all reasons.
  * It ends with status 0, or 2 where RAW can't be read.
  */
 #include "judge.h"
@@ -54,9 +54,14 @@ static void judge(const unsigned char *bytes, size_t count, const char *base)
     ZydisDecoderInit(&decoder, ZYDIS_MACHINE_MODE_LONG_64, ZYDIS_STACK_WIDTH_64);
     while (at < count) {
         struct code code = code_of(bytes + at, count - at);
+        int size, error = 0;
+        memset(reading.refusals, 0, sizeof reading.refusals);
         reading.refusal = NULL;
         expect(&decoder, &code, &reading);
-        int size = base ? shown_text(first + at, &code, &reading, text) : reading_text(at, &reading, text, sizeof text);
+        do {
+            reading.refusal = reading.refusals[error];
+            size = base ? shown_text(first + at, &code, &reading, text) : reading_text(at, &reading, text, sizeof text);
+        } while ((length != size || memcmp(line, text, (size_t)size) != 0) && reading.refusal && reading.refusals[++error]);
         size_t place = length > 0 ? strtoull(line, NULL, base ? 16 : 10) - first : count, next = at + (reading.refusal ? 1 : reading.length);
         lines++;
         refusals += reading.refusal != NULL;
@@ -74,17 +79,14 @@ static void judge(const unsigned char *bytes, size_t count, const char *base)
 int main(int argc, char **argv)
 {
     size_t count;
-    if (argc == 2 && strcmp(argv[1], "version") == 0) {
-        ZyanU64 v = ZydisGetVersion();
-        printf("zydis %d.%d.%d\n", (int)ZYDIS_VERSION_MAJOR(v), (int)ZYDIS_VERSION_MINOR(v), (int)ZYDIS_VERSION_PATCH(v));
-    } else if (argc == 2 && strcmp(argv[1], "reasons") == 0) print_names();
+    if (argc == 2 && strcmp(argv[1], "reasons") == 0) print_names();
     else if (argc == 2 || argc == 3) {
         prepare_rules();
         unsigned char *bytes = contents(argv[1], &count);
         judge(bytes, count, argv[2]);
         free(bytes);
     } else {
-        fprintf(stderr, "usage: judge RAW [BASE] < LINES | judge reasons | judge version\n");
+        fprintf(stderr, "usage: judge RAW [BASE] < LINES | judge reasons\n");
         return 2;
     }
     return 0;

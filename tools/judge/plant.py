@@ -162,8 +162,6 @@ EDITS = [
     ("instruction as the end", r"^(\d+) \d+ MOV.*", r"\1 error: exhausted input"),
     ("refusal as instruction", r"^(\d+) error: invalid opcode", r"\1 1 NOP m0"),
     ("refusal of VEX as instruction", r"^(\d+) error: the decoder is incomplete", r"\1 1 NOP m0"),
-    ("refusal invalid opcode as invalid operand", "invalid opcode", "invalid operand"),
-    ("refusal invalid operand as invalid opcode", "invalid operand", "invalid opcode"),
     ("refusal of VEX as invalid opcode", "the decoder is incomplete", "invalid opcode"),
     ("refusal invalid opcode as that of VEX", "invalid opcode", "the decoder is incomplete"),
     ("refusal invalid prefixes as invalid opcode", "invalid prefixes", "invalid opcode"),
@@ -246,7 +244,7 @@ SHOWN_EDITS = [
     ("register with another number", " rcx,", " rdx,"),
     ("operands exchanged", r"( MOV) (\S+), (r\S+)$", r"\1 \3, \2"),
     ("refusal of two bytes", r"^(\w+  \w\w)    (?=.*\(bad)", r"\1 90 "),
-    ("refusal with another text", "invalid opcode", "invalid operand"),
+    ("refusal with another text", "invalid opcode", "invalid prefixes"),
     ("refusal as instruction", r"\(bad: invalid opcode\)", "NOP"),
     ("instruction as refusal", r"(?<= )MOV .*", "(bad: invalid opcode)"),
 ]

@@ -196,7 +196,7 @@ void expect(const ZydisDecoder *decoder, const struct code *code, struct reading
     const struct where *where = first(0, code);
     if (where) {
         if (is_read) count(where, code);
-        reading->refusal = refusal_of(decoder, code, NULL, ZYDIS_STATUS_DECODING_ERROR);
+        refuse(decoder, code, NULL, ZYDIS_STATUS_DECODING_ERROR, reading);
         return;
     }
     if (is_read) read_as_here(reading);
@@ -210,7 +210,7 @@ void expect(const ZydisDecoder *decoder, const struct code *code, struct reading
     }
     if (is_read) { apply_changes(code, reading); return; }
     if (status == ZYDIS_STATUS_ILLEGAL_LOCK) status = status_without_lock(decoder, &other, reading);
-    reading->refusal = refusal_of(decoder, code, &other, status);
+    refuse(decoder, code, &other, status, reading);
 }
 
 void prepare_rules(void)
