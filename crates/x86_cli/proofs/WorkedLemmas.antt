@@ -34,13 +34,13 @@ use Rattle.x86_decode.specs.Grammar.{Whole, Decides, IsAnswer, by_bytes, case_2,
 use Rattle.x86_decode.specs.Head.{column_of, escape_bytes, is_opcode, is_run, seen_by}
 use Rattle.x86_decode.specs.Instruction.{instruction_of}
 use Rattle.x86_cli.specs.Headline.{Headline, Sentence}
-use Rattle.x86_cli.specs.Worked.{add_rax_rbx, mov_rax_at_rbp, neg_eax, add_at_rbx_rax, pshufb_xmm0_xmm1, add_eax_ebx}
+use Rattle.x86_cli.specs.Worked.{add_rax_rbx, mov_rax_at_rbp, neg_eax, add_at_rbx_rax, places_at, pshufb_xmm0_xmm1, add_eax_ebx}
 
 -- the slots and operands of operand encodings without an immediate
 abbrev pairs_of : List OperandEncoding → Prefixes → ℕ → Option Raw → List (Slot × Operand)
 pairs_of encodings p m memory = map (λ s. operand_from s p m memory []) encodings
 
-no_immediates : (encodings : List OperandEncoding) (p : Prefixes) (m : ℕ) (memory : Option Raw) → total (map immediate_width encodings) ≡ 0 →
+pub no_immediates : (encodings : List OperandEncoding) (p : Prefixes) (m : ℕ) (memory : Option Raw) → total (map immediate_width encodings) ≡ 0 →
     SpellsOperands encodings p m memory [] (pairs_of encodings p m memory)
 no_immediates [] p m memory none = (refl, refl)
 no_immediates (s ∷ rest) p m memory none =
@@ -49,7 +49,7 @@ no_immediates (s ∷ rest) p m memory none =
 -- An encoding with ModRM and without an immediate: a run, the opcode byte of a row, ModRM, and the SIB and displacement
 -- of its memory operand.
 module _ (strict : Bool) (run : List ℕ) (in_map : Map) (opcode : ℕ) (row : TableRow) (m : ℕ) (address : List ℕ) (memory : Option Raw) where
-  pub whole_of : let p = seen_by in_map opcode (reading_of run) in let r = record_of strict row p in let plan = r.plan m in
+  abbrev pub whole_of : let p = seen_by in_map opcode (reading_of run) in let r = record_of strict row p in let plan = r.plan m in
       is_run run ≡ true → is_opcode in_map opcode ≡ true → rows_of packed in_map (column_of (reading_of run)) opcode ≡ Some row → r.at_opcode ≡ None → r.modrm ≡ EitherForm →
       plan.verdict ≡ Accepts → total (map immediate_width (list_of plan.encodings)) ≡ 0 → SpellsMemory p m address memory →
       Whole (rows_of packed) strict (run ++ (escape_bytes in_map ++ opcode ∷ m ∷ address)) (reading_from plan p plan.opcode (four_of (pairs_of (list_of plan.encodings) p m memory)))
@@ -96,14 +96,14 @@ at_register m = record { rex_b = false; rex_x = false; address_size = false; mod
 -- The rows are the printed ones, by the headline.
 module _ (strict : Bool) (h : Headline strict) where
   -- the run 48, no escape, the opcode byte 01 and its row, ModRM d8, and nothing after it
-  pub add_sentence : Sentence strict (0x48 ∷ 0x01 ∷ 0xd8 ∷ []) (instruction_of add_rax_rbx 3)
+  pub add_sentence : Sentence strict (0x48 ∷ 0x01 ∷ 0xd8 ∷ []) (instruction_of add_rax_rbx (places_at 2 3) 3)
   unfolding form_record form_plan form_rows modrm_use printed_row
   add_sentence =
       let w = whole_of strict (0x48 ∷ []) One 0x01 (record { opcode = ADD; form = Ev_Gv }) 0xd8 [] None refl refl (h.rows One Plain 0x01) refl refl refl refl (refl, refl) in
       record { reading = add_rax_rbx; whole = w; lock = refl; short = omega arith; yields = refl }
 
   -- the run 48, no escape, the opcode byte 8b and its row, ModRM 45, and a displacement of one byte
-  pub load_sentence : Sentence strict (0x48 ∷ 0x8b ∷ 0x45 ∷ 0x00 ∷ []) (instruction_of mov_rax_at_rbp 4)
+  pub load_sentence : Sentence strict (0x48 ∷ 0x8b ∷ 0x45 ∷ 0x00 ∷ []) (instruction_of mov_rax_at_rbp (places_at 2 4) 4)
   unfolding form_record form_plan form_rows modrm_use printed_row shape
   load_sentence =
       let w = whole_of strict (0x48 ∷ []) One 0x8b (record { opcode = MOV; form = Gv_Ev }) 0x45 (0x00 ∷ []) (Some (at_register 0x45)) refl refl (h.rows One Plain 0x8b) refl refl refl refl
@@ -111,14 +111,14 @@ module _ (strict : Bool) (h : Headline strict) where
       record { reading = mov_rax_at_rbp; whole = w; lock = refl; short = omega arith; yields = refl }
 
   -- no run, no escape, the opcode byte f7 and its row, ModRM d8, whose reg chooses NEG, and nothing after it
-  pub group_sentence : Sentence strict (0xf7 ∷ 0xd8 ∷ []) (instruction_of neg_eax 2)
+  pub group_sentence : Sentence strict (0xf7 ∷ 0xd8 ∷ []) (instruction_of neg_eax (places_at 1 2) 2)
   unfolding group_record group_plan group_rows printed_row
   group_sentence =
       let w = whole_of strict [] One 0xf7 (record { opcode = Invalid; form = ModRM_0xf7 }) 0xd8 [] None refl refl (h.rows One Plain 0xf7) refl refl refl refl (refl, refl) in
       record { reading = neg_eax; whole = w; lock = refl; short = omega arith; yields = refl }
 
   -- the run f0 48, no escape, the opcode byte 01 and its row, ModRM 03, and nothing after it
-  pub locked_add_sentence : Sentence strict (0xf0 ∷ 0x48 ∷ 0x01 ∷ 0x03 ∷ []) (instruction_of add_at_rbx_rax 4)
+  pub locked_add_sentence : Sentence strict (0xf0 ∷ 0x48 ∷ 0x01 ∷ 0x03 ∷ []) (instruction_of add_at_rbx_rax (places_at 3 4) 4)
   unfolding form_record form_plan form_rows modrm_use printed_row shape
   locked_add_sentence =
       let w = whole_of strict (0xf0 ∷ 0x48 ∷ []) One 0x01 (record { opcode = ADD; form = Ev_Gv }) 0x03 [] (Some (at_register 0x03)) refl refl (h.rows One Plain 0x01) refl refl refl refl
@@ -126,7 +126,7 @@ module _ (strict : Bool) (h : Headline strict) where
       record { reading = add_at_rbx_rax; whole = w; lock = refl; short = omega arith; yields = refl }
 
   -- the run 66, the escape 0f 38, the opcode byte 00 and its row, ModRM c1, and nothing after it
-  pub chosen_by_66_sentence : Sentence strict (0x66 ∷ 0x0f ∷ 0x38 ∷ 0x00 ∷ 0xc1 ∷ []) (instruction_of pshufb_xmm0_xmm1 5)
+  pub chosen_by_66_sentence : Sentence strict (0x66 ∷ 0x0f ∷ 0x38 ∷ 0x00 ∷ 0xc1 ∷ []) (instruction_of pshufb_xmm0_xmm1 (places_at 4 5) 5)
   unfolding form_record form_plan form_rows modrm_use printed_row
   chosen_by_66_sentence =
       let w = whole_of strict (0x66 ∷ []) Of38 0x00 (record { opcode = PSHUFB; form = G_E_xmm }) 0xc1 [] None refl refl (h.rows Of38 P66 0x00) refl refl refl refl (refl, refl) in

@@ -14,6 +14,7 @@ use Rattle.x86_decode.specs.Head.{Rows}
 use Rattle.x86_decode.specs.Grammar.{IsSentence, DecidesByBytes, case_1, case_2, case_3, case_4, IsTooLong, Decides, by_bytes, case_5, HasNoSentence, in_head, IsRefusal, IsAnswer}
 use Rattle.x86_decode.proofs.RowSteps.{same_error, fault_error}
 use Rattle.x86_decode.proofs.HeadLemmas.{vex_final}
+use Rattle.x86_decode.proofs.PlaceLemmas.{same_places_of}
 use Rattle.x86_decode.proofs.BodyLemmas.{beginning_le, verdict, early, sentence_settles, out_nothing}
 use Rattle.x86_decode.proofs.Theorem.{agree, not_both, refusal_iff, refusal, some_answer, none_settles, open_answer}
 
@@ -83,7 +84,8 @@ module _ (rows : Rows) (strict : Bool) where
   sentences_agree : (input s t x y : List ℕ) (a b : Instruction) → input ≡ s ++ x → input ≡ t ++ y → IsSentence rows strict s a → IsSentence rows strict t b → (a ≡ b) × (s ≡ t)
   sentences_agree input s t x y a b h k is js =
       let same = agree rows strict s t x y (Ok is.reading) (Ok js.reading) (sentence_settles rows strict s a is) (sentence_settles rows strict t b js) (sym h ∙ k) in
-      (cc (is.yields, js.yields, same.0, same.1), same.1)
+      let places = same_places_of rows strict s t x y is.reading js.reading is.whole js.whole is.short js.short (sym h ∙ k) in
+      (cc (is.yields, js.yields, places, same.0, same.1), same.1)
 
   refusals_agree : (q : List ℕ) (e f : DecodeError) → Decides rows strict q e → Decides rows strict q f → e ≡ f
   refusals_agree q e f (by_bytes d) (by_bytes k) =

@@ -19,7 +19,8 @@ use Rattle.x86_operands.specs.declared.plans.ModrmUse.{ModrmUse}
 use Rattle.x86_operands.specs.declared.plans.ModrmUse.TheVariants.{EitherForm}
 use Rattle.x86_operands.specs.declared.reader.Reading.{Reading}
 use Rattle.x86_fields.specs.ModRM.{is_memory}
-use Rattle.x86_operands.specs.PlanSteps.{read_plan, record_step, filled_step, operands_step, read_modrm, refuse_fault, four_of, reading_from}
+use Rattle.x86_operands.specs.PlanSteps.{read_plan, filled_step, operands_step, read_modrm, refuse_fault, four_of, reading_from}
+use Rattle.x86_operands.specs.Places.{Placed, place_of, plan_places, plan_placed, record_placed}
 use Rattle.x86_operands.specs.Forms.{form_record}
 use Rattle.x86_operands.specs.Pieces.{SpellsTail, at_modrm, SpellsRow, past_opcode, modrm_width}
 use Rattle.x86_operands.specs.Asks.{modrm_of}
@@ -28,10 +29,11 @@ use Rattle.x86_decode.specs.declared.instructions.Instruction.{Instruction}
 use Rattle.x86_decode.specs.Head.{Rows, column_of, escape_bytes, clears, seen_by}
 use Rattle.x86_decode.specs.Instruction.{instruction_of}
 use Rattle.x86_decode.specs.Bound.{bounded}
-use Rattle.x86_decode.specs.Grammar.{allows_lock, Whole, IsAnswer}
-use Rattle.x86_decode.specs.Walk.{head_step, opcode_step, some_row, walk_within, bounded_outcome, decode_step}
+use Rattle.x86_decode.specs.Grammar.{allows_lock, Whole, places_of, IsAnswer}
+use Rattle.x86_decode.specs.Walk.{head_step, opcode_step, some_row, walk_placed, walk_within, bounded_outcome, decode_step}
 use Rattle.x86_decode.specs.Answer.{answer_of, count_of}
 use Rattle.x86_decode.specs.Choices.{IsFence, BeginsWithFence}
+use Rattle.x86_decode.proofs.PlaceLemmas.{takes_placed, unplaced_walk, walk_refuses}
 use Rattle.x86_decode.proofs.BodyLemmas.{takes_refused, BodyYields, BodyBetween, ends_body, takes_whole}
 use Rattle.x86_decode.proofs.Theorem.{within, beginning_at_most, walk_answers, answered_by}
 use Rattle.x86_decode.proofs.RowSteps.{ok_apart}
@@ -40,11 +42,11 @@ use Rattle.x86_decode.proofs.PrintedLemmas.{is_answer, only_answer}
 
 -- ---- the outcome of a step under the strict choice, and by default
 
-data Compared (strictly default : Outcome Reading) : Type 0 where
+data Compared (strictly default : Outcome Placed) : Type 0 where
   same : strictly ≡ default → Compared strictly default
-  differ : (reading : Reading) → default.answer ≡ Ok reading → strictly.answer ≡ Err InvalidOperand → Compared strictly default
+  differ : (read : Placed) → default.answer ≡ Ok read → strictly.answer ≡ Err InvalidOperand → Compared strictly default
 
-compared_from : {X : Type 0} (a : Result X DecodeError) (s : State ℕ) (f g : X → Step Reading) → ((x : X) (t : State ℕ) → Compared (f x t) (g x t)) → Compared (then_from a s f) (then_from a s g)
+compared_from : {X : Type 0} (a : Result X DecodeError) (s : State ℕ) (f g : X → Step Placed) → ((x : X) (t : State ℕ) → Compared (f x t) (g x t)) → Compared (then_from a s f) (then_from a s g)
 compared_from (Ok x) s f g each = each x s
 compared_from (Err e) s f g each = same refl
 
@@ -57,14 +59,14 @@ fence_reading o p = reading_from (operandless o) p o (four_of [])
 module _ (same_elsewhere : (row : TableRow) (p : Prefixes) (m : ℕ) → (group_plan row p m true ≡ group_plan row p m false) ⊎ IsFenceWithRm row.form p m)
     (fence_by_default : (row : TableRow) (p : Prefixes) (m : ℕ) (fence : IsFenceWithRm row.form p m) → group_plan row p m false ≡ operandless fence.opcode)
     (fence_strictly : (row : TableRow) (p : Prefixes) (m : ℕ) → IsFenceWithRm row.form p m → group_plan row p m true ≡ bad_operand) where
-  compared_row : (t : Bool) (row : TableRow) (p : Prefixes) (s : State ℕ) → Compared (record_step (if t then group_record true row p else form_record row p) p s) (record_step (if t then group_record false row p else form_record row p) p s)
-  unfolding record_step group_record read_plan filled_step operands_step
-  compared_row true row p s =
+  compared_row : (t : Bool) (n : ℕ) (row : TableRow) (p : Prefixes) (s : State ℕ) → Compared (record_placed n (if t then group_record true row p else form_record row p) p s) (record_placed n (if t then group_record false row p else form_record row p) p s)
+  unfolding record_placed group_record read_plan filled_step operands_step
+  compared_row true n row p s =
       compared_from (refuse_fault (group_fault row.form p) s).answer (refuse_fault (group_fault row.form p) s).after _ _ (λ _ t. compared_from (read_modrm (group_modrm row.form) t).answer (read_modrm (group_modrm row.form) t).after _ _ (λ m z. elim (same_elsewhere row p m) [
-        | inl e ↦ same (ap (λ plan. read_plan plan p m z) e)
-        | inr h ↦ differ (fence_reading h.opcode p) (ap (λ plan. (read_plan plan p m z).answer) (fence_by_default row p m h) ∙ rw h.register refl) (ap (λ plan. (read_plan plan p m z).answer) (fence_strictly row p m h))
+        | inl e ↦ same (ap (λ plan. plan_placed n plan p m z) e)
+        | inr h ↦ differ (fence_reading h.opcode p, plan_places (operandless h.opcode) p m z n) (ap (λ plan. (plan_placed n plan p m z).answer) (fence_by_default row p m h) ∙ rw h.register refl) (ap (λ plan. (plan_placed n plan p m z).answer) (fence_strictly row p m h))
       ]))
-  compared_row false row p s = same refl
+  compared_row false n row p s = same refl
 
   -- ---- a fence in the grammar
 
@@ -100,10 +102,10 @@ module _ (same_elsewhere : (row : TableRow) (p : Prefixes) (m : ℕ) → (group_
   -- ---- any input
 
   module _ (rows : Rows) where
-    compared_body : (s : State ℕ) → Compared (walk_within rows true s) (walk_within rows false s)
-    unfolding walk_within
+    compared_body : (s : State ℕ) → Compared (walk_placed rows true s) (walk_placed rows false s)
+    unfolding walk_placed
     compared_body s = compared_from (head_step s).answer (head_step s).after _ _ (λ h t. compared_from (opcode_step h.0 h.1 t).answer (opcode_step h.0 h.1 t).after _ _ (λ o z.
-        let row = some_row (rows o.0 (column_of h.0) o.1) z in compared_from row.answer row.after _ _ (λ k. compared_row (is_group k.form) k (seen_by o.0 o.1 h.0))))
+        let row = some_row (rows o.0 (column_of h.0) o.1) z in compared_from row.answer row.after _ _ (λ k u. compared_row (is_group k.form) (place_of u.since_mark) k (seen_by o.0 o.1 h.0) u)))
 
     -- ---- an input that is read by default
 
@@ -139,7 +141,7 @@ module _ (same_elsewhere : (row : TableRow) (p : Prefixes) (m : ℕ) → (group_
       unfolding decode_step
       same_elsewhere_on = elim (compared_body first) [
         | same e ↦ let w : decode_step rows true (fresh input) ≡ decode_step rows false (fresh input) = ap (λ o. bounded_outcome o.answer o.after.since_mark (fresh input)) e in inl (λ r n. (answer_as true false r n w, answer_as false true r n (sym w)))
-        | differ reading d e ↦ inr (differs reading d e (ends_body rows false first))
+        | differ read d e ↦ inr (differs read.0 (ap (λ o. o.answer) (sym (unplaced_walk rows false first)) ∙ rw d refl) (ap (λ o. o.answer) (sym (unplaced_walk rows true first)) ∙ rw e refl) (ends_body rows false first))
       ]
 
       -- ---- an input that begins with a fence
@@ -154,17 +156,20 @@ module _ (same_elsewhere : (row : TableRow) (p : Prefixes) (m : ℕ) → (group_
         abbrev h : IsFenceWithRm is.row.form p is.modrm
         h = is.names
 
-        answer_at : (strict : Bool) (r : Result Reading DecodeError) (e : DecodeError) → Takes (walk_within rows strict) f.fence r → ((n : ℕ) → bounded_outcome r n (fresh input) ≡ outcome (Err e) (advanced n (fresh input))) → IsAnswer rows strict input (Err e) (length f.fence)
+        after_fence : first.left ≡ f.fence ++ take (15 - length f.fence) f.rest
+        after_fence = within input f.fence f.rest f.begins f.short
+
+        answer_at : (strict : Bool) (r : Result Placed DecodeError) (e : DecodeError) → walk_placed rows strict first ≡ outcome r (advanced (length f.fence) first) → ((n : ℕ) → bounded_outcome r n (fresh input) ≡ outcome (Err e) (advanced n (fresh input))) → IsAnswer rows strict input (Err e) (length f.fence)
         unfolding decode_step
-        answer_at strict r e t closes =
+        answer_at strict r e takes closes =
             let n : ℕ = 0 + length f.fence in
-            let ends = ap (λ o. bounded_outcome o.answer o.after.since_mark (fresh input)) (t.takes (take (15 - length f.fence) f.rest) first (within input f.fence f.rest f.begins f.short)) ∙ closes n in
+            let ends = ap (λ o. bounded_outcome o.answer o.after.since_mark (fresh input)) takes ∙ closes n in
             subst (IsAnswer rows strict input (Err e)) (let z : 0 + n ≡ length f.fence = omega arith in z) (answered_by rows strict (fresh input) {after = advanced n (fresh input)} {r = Err e} (sym ends)).0
 
         pub fence_strict_answer : IsAnswer rows true input (Err InvalidOperand) (length f.fence)
         unfolding group_record
         fence_strict_answer = answer_at true (Err InvalidOperand) InvalidOperand
-            (takes_refused rows true f.fence BadOperand (record {
+            (walk_refuses rows true first _ InvalidOperand ((takes_refused rows true f.fence BadOperand (record {
               run = is.run;
               map = is.map;
               opcode = is.opcode;
@@ -175,7 +180,7 @@ module _ (same_elsewhere : (row : TableRow) (p : Prefixes) (m : ℕ) → (group_
               in_map = is.in_map;
               has_row = is.has_row;
               refuses = rw (ap is_group h.group) (past_opcode (is.modrm ∷ []) [] (ap (λ f. group_fault f p) h.group) refl (rw (ap group_modrm h.group) refl) (rw (ap group_modrm h.group, fence_strictly is.row p is.modrm h) (at_modrm refl refl)));
-            }))
+            })).takes _ first after_fence))
             (λ n. refl)
 
         read_whole : Whole rows false f.fence (fence_reading h.opcode p)
@@ -198,14 +203,16 @@ module _ (same_elsewhere : (row : TableRow) (p : Prefixes) (m : ℕ) → (group_
 
         pub fence_read : (reading_of is.run).lock ≡ false → (i : Instruction) × IsAnswer rows false input (Ok i) (length f.fence) × (i.opcode ≡ f.is.names.opcode) × (i.operand_list.count ≡ 0)
         fence_read free = (
-          instruction_of (fence_reading h.opcode p) (length f.fence),
+          instruction_of (fence_reading h.opcode p) (places_of rows false f.fence (fence_reading h.opcode p) read_whole) (length f.fence),
           record { sentence = f.fence; rest = f.rest; begins = f.begins; long = refl; is = record { reading = fence_reading h.opcode p; whole = read_whole; lock = read_lock ∙ ap not free; short = f.short; yields = refl } },
           refl,
           refl,
         )
 
         pub fence_locked : (reading_of is.run).lock ≡ true → IsAnswer rows false input (Err InvalidPrefixes) (length f.fence)
-        fence_locked locked = answer_at false (Ok (fence_reading h.opcode p)) InvalidPrefixes (takes_whole rows false f.fence _ read_whole) (λ n. rw (read_lock ∙ ap not locked) refl)
+        fence_locked locked =
+            let read = takes_placed rows false f.fence _ (fence_reading h.opcode p) first (takes_whole rows false f.fence _ read_whole) after_fence in
+            answer_at false (Ok (fence_reading h.opcode p, read.0)) InvalidPrefixes read.1 (λ n. rw (read_lock ∙ ap not locked) refl)
 
   -- ---- the printed rows
 

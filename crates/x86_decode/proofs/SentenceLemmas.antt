@@ -17,7 +17,7 @@ use Rattle.x86_decode.specs.Instruction.{slot_at, operand_at}
 use Rattle.x86_decode.specs.Ties.{HasTiedOperands}
 use Rattle.x86_decode.specs.Addresses.{encodings_within, raw_within}
 use Rattle.x86_groups.specs.Groups.{record_of}
-use Rattle.x86_decode.specs.Grammar.{IsSentence, IsAnswer}
+use Rattle.x86_decode.specs.Grammar.{places_of, IsSentence, IsAnswer}
 use Rattle.x86_decode.specs.Answer.{answer_of, count_of}
 use Rattle.x86_operands.specs.declared.reader.Reading.{Reading}
 use Rattle.x86_operands.specs.Asks.{modrm_of}
@@ -28,7 +28,7 @@ use Rattle.x86_decode.proofs.TieLemmas.{tied_operands, is_shape}
 use Rattle.x86_decode.proofs.PrintedLemmas.{printed_answer}
 
 pub sentence_tied : (rows : Rows) (strict : Bool) (s : List ℕ) (a : Instruction) → IsSentence rows strict s a → HasTiedOperands a
-sentence_tied rows strict s a is = rw is.yields (tied_operands is.reading (length s) (spelled_tied _ _ is.whole.tail is.reading is.whole.row_spelled))
+sentence_tied rows strict s a is = rw is.yields (tied_operands is.reading (places_of rows strict s is.reading is.whole) (length s) (spelled_tied _ _ is.whole.tail is.reading is.whole.row_spelled))
 
 -- ---- the memory operand of ModRM, by the laws on such operands and on shapes
 
@@ -36,7 +36,7 @@ module _ (shapes : (r : RowRecord) (p : Prefixes) (bytes : List ℕ) (reading : 
     (rows : Rows) (strict : Bool) (s : List ℕ) (a : Instruction) (is : IsSentence rows strict s a) (raw : Raw) (k : ℕ) (memory : raw_within rows strict s is.reading is.whole ≡ Some raw) (named : names_modrm (encodings_within rows strict s is.reading is.whole) k ≡ true) where
   pub sentence_shape : (slot_at a k ≡ (shape raw).0) × (operand_at a k ≡ (shape raw).1)
   sentence_shape =
-      let here = is_shape is.reading (length s) k raw (shapes _ _ is.whole.tail is.reading is.whole.row_spelled raw memory k named) in
+      let here = is_shape is.reading (places_of rows strict s is.reading is.whole) (length s) k raw (shapes _ _ is.whole.tail is.reading is.whole.row_spelled raw memory k named) in
       (ap (λ i. slot_at i k) is.yields ∙ here.0, ap (λ i. operand_at i k) is.yields ∙ here.1)
 
   pub sentence_address : ((r : RowRecord) (p : Prefixes) (bytes : List ℕ) (reading : Reading) (row_spelled : SpellsRow r p bytes reading) (raw : Raw) → row_spelled.tail_spelled.pieces.memory ≡ Some raw → raw.address_size ≡ p.address_size) →

@@ -3,15 +3,16 @@ use Rattle.std.proofs.Common.{◌≡◌, ℕ, ◌<◌, ◌∙◌, refl}
 use Rattle.std.proofs.lemmas.Bool.{lt-ltb}
 use Rattle.x86_fields.specs.declared.raw.Raw.{Raw}
 use Rattle.x86_operands.specs.declared.reader.Reading.{Reading}
+use Rattle.x86_operands.specs.declared.places.Places.{Places}
 use Rattle.x86_operands.specs.Operands.{shape}
 use Rattle.x86_operands.specs.Pieces.{slot_read, operand_read, AreTied, HasShapeAt}
 use Rattle.x86_decode.specs.declared.instructions.Instruction.{Instruction}
 use Rattle.x86_decode.specs.Instruction.{instruction_of, slot_at, operand_at}
 use Rattle.x86_decode.specs.Ties.{HasTiedOperands}
 
-module _ (reading : Reading) (n : ℕ) where
+module _ (reading : Reading) (places : Places) (n : ℕ) where
   abbrev made : Instruction
-  made = instruction_of reading n
+  made = instruction_of reading places n
 
   slot_here : (k : ℕ) → k < reading.count → slot_at made k ≡ slot_read reading k
   slot_here k below = rw (lt-ltb k reading.count below) refl

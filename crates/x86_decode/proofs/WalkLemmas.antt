@@ -6,7 +6,7 @@ use Rattle.x86_fields.specs.declared.errors.DecodeError.{DecodeError}
 use Rattle.x86_fields.specs.declared.errors.DecodeError.TheVariants.{ExhaustedInput, TooLong}
 use Rattle.x86_fields.specs.Steps.{Outcome, outcome}
 use Rattle.x86_fields.proofs.StepLemmas.{advanced_twice}
-use Rattle.x86_operands.specs.declared.reader.Reading.{Reading}
+use Rattle.x86_operands.specs.Places.{Placed}
 use Rattle.x86_decode.specs.declared.instructions.Instruction.{Instruction}
 use Rattle.x86_decode.specs.Head.{Rows}
 use Rattle.x86_decode.specs.Instruction.{holding, reading_in}
@@ -15,12 +15,12 @@ use Rattle.x86_fields.specs.Errors.{is_exhausted}
 use Rattle.x86_operands.specs.declared.operands.Slot.{Slot}
 use Rattle.x86_operands.specs.declared.operands.Slot.TheVariants.{Nothing}
 use Rattle.x86_decode.specs.Grammar.{allows_lock, first_slot}
-use Rattle.x86_decode.specs.Walk.{walk_within, bounded_outcome, judgement, limit_step, takes_lock, walk_bounded}
+use Rattle.x86_decode.specs.Walk.{placed_in, walk_placed, bounded_outcome, judgement, limit_step, takes_lock, walk_bounded}
 use Rattle.x86_fields.specs.Prefixes.{lock}
 use Rattle.x86_decode.proofs.BoundLemmas.{same_state}
-use Rattle.x86_decode.proofs.BodyLemmas.{body_moves, Moves}
+use Rattle.x86_decode.proofs.PlaceLemmas.{Moves, walk_moves}
 
-module _ (rows : Rows) (strict : Bool) (m t : State ℕ) (a : ℕ) (r : Result Reading DecodeError) where
+module _ (rows : Rows) (strict : Bool) (m t : State ℕ) (a : ℕ) (r : Result Placed DecodeError) where
   -- the reader's state after the reading, and the outcome of the walk
   pub record Walked : Type 0 where
     pub count : t.since_mark ≡ 15 - a
@@ -28,10 +28,10 @@ module _ (rows : Rows) (strict : Bool) (m t : State ℕ) (a : ℕ) (r : Result R
     pub at : t ≡ advanced t.since_mark m
     pub is : walk_bounded rows strict m ≡ bounded_outcome r t.since_mark m
 
-  pub walked : (u start : State ℕ) → outcome r u ≡ walk_within rows strict (bounded 15 m) → bounded a t ≡ u → a ≤ 15 → HasAdvanced (15 - a) start t → m ≡ start → m.since_mark ≡ 0 → Walked
+  pub walked : (u start : State ℕ) → outcome r u ≡ walk_placed rows strict (bounded 15 m) → bounded a t ≡ u → a ≤ 15 → HasAdvanced (15 - a) start t → m ≡ start → m.since_mark ≡ 0 → Walked
   walked u start e b few following same zero =
-      let o : Outcome Reading = walk_within rows strict (bounded 15 m) in
-      let v : Moves rows strict (bounded 15 m) o = body_moves rows strict (bounded 15 m) in
+      let o : Outcome Placed = walk_placed rows strict (bounded 15 m) in
+      let v : Moves rows strict (bounded 15 m) o = walk_moves rows strict (bounded 15 m) in
       let after : bounded a t ≡ o.after = b ∙ ap (λ x. x.after) e in
       let mark : t.since_mark ≡ m.since_mark + v.count = ap (λ x. x.since_mark) after ∙ ap (λ x. x.since_mark) v.after in
       let made : t.since_made ≡ m.since_made + v.count = ap (λ x. x.since_made) after ∙ ap (λ x. x.since_made) v.after in
@@ -61,14 +61,14 @@ judged_first i j e = e ∙ ap (λ slot. judgement (takes_lock i.prefixes i.opcod
 pub unlocked : (i : Instruction) → lock i.prefixes ≡ false → ◌≡◌ {A = Result (Unit {0}) DecodeError} (Ok tt) (judgement (allows_lock (reading_in i)))
 unlocked i absent = rw absent refl
 
-pub ends_judged : (rows : Rows) (strict : Bool) (m t : State ℕ) (a n : ℕ) (i : Instruction) (j : Result (Unit {0}) DecodeError) → Walked rows strict m t a (Ok (reading_in i)) → n ≡ t.since_mark → j ≡ judgement (allows_lock (reading_in i)) → outcome (holding (record i { length = n }) j) t ≡ walk_bounded rows strict m
-ends_judged rows strict m t a n i j w e h = ap (λ k. outcome (holding (record i { length = n }) k) t) h ∙ same ∙ ap (λ k. bounded_outcome (Ok (reading_in i)) k m) e ∙ sym w.is
+pub ends_judged : (rows : Rows) (strict : Bool) (m t : State ℕ) (a n : ℕ) (i : Instruction) (j : Result (Unit {0}) DecodeError) → Walked rows strict m t a (Ok (placed_in i)) → n ≡ t.since_mark → j ≡ judgement (allows_lock (reading_in i)) → outcome (holding (record i { length = n }) j) t ≡ walk_bounded rows strict m
+ends_judged rows strict m t a n i j w e h = ap (λ k. outcome (holding (record i { length = n }) k) t) h ∙ same ∙ ap (λ k. bounded_outcome (Ok (placed_in i)) k m) e ∙ sym w.is
   where
-    same : outcome (holding (record i { length = n }) (judgement (allows_lock (reading_in i)))) t ≡ bounded_outcome (Ok (reading_in i)) n m
+    same : outcome (holding (record i { length = n }) (judgement (allows_lock (reading_in i)))) t ≡ bounded_outcome (Ok (placed_in i)) n m
     same = let at : t ≡ advanced n m = w.at ∙ ap (λ k. advanced k m) (sym e) in grind arith
 
 -- the items still allowed are there exactly where there were fifteen
-there : (rows : Rows) (strict : Bool) (m t : State ℕ) (a : ℕ) (r : Result Reading DecodeError) → Walked rows strict m t a r → a ≤ 15 → nat_le a (length t.left) ≡ nat_le 15 (length m.left)
+there : (rows : Rows) (strict : Bool) (m t : State ℕ) (a : ℕ) (r : Result Placed DecodeError) → Walked rows strict m t a r → a ≤ 15 → nat_le a (length t.left) ≡ nat_le 15 (length m.left)
 there rows strict m t a r w few =
     let room = w.room in
     let left : length t.left ≡ length m.left - (15 - a) = ap (λ s. length s.left) w.at ∙ length-drop t.since_mark m.left ∙ ap (λ n. length m.left - n) w.count in

@@ -16,11 +16,11 @@ use Rattle.x86_forms.specs.declared.TableRow.{TableRow}
 use Rattle.x86_forms.specs.Rows.{printed_row}
 use Rattle.x86_forms.specs.Words.{packed, rows_of, unpack}
 use Rattle.x86_forms.proofs.WordLemmas.{row_of_printed_word}
-use Rattle.x86_operands.specs.declared.reader.Reading.{Reading}
+use Rattle.x86_operands.specs.Places.{Placed}
 use Rattle.x86_decode.specs.declared.head.Lead.TheVariants.{Vex, Escape}
 use Rattle.x86_decode.specs.Head.{Rows, column_of, is_opcode, vex_refusal, seen_by}
 use Rattle.x86_decode.specs.Lead.{lead_of}
-use Rattle.x86_decode.specs.Walk.{body_step, escape_step, found_word, head_step, opcode_step, read_escaped, read_word, row_step, some_row, walk_within}
+use Rattle.x86_decode.specs.Walk.{body_placed, escape_step, found_word, head_step, opcode_step, read_escaped, read_word, row_placed, some_row, walk_placed}
 use Rattle.x86_decode.proofs.HeadWalk.{Headed, at_other}
 use Rattle.x86_decode.proofs.LeadLemmas.{vex_lead, escape_lead, plain_lead, is_plain}
 
@@ -50,31 +50,31 @@ then_third map d r s t u first is e = ap (λ o. then_from o.answer o.after (λ b
 
 -- ---- what follows the row of a word
 
-after_row : Bool → Outcome (Option TableRow × Prefixes) → Outcome Reading
-after_row strict o = then_from o.answer o.after (λ x. some_row x.0 >>= λ row. row_step strict row x.1)
+after_row : Bool → Outcome (Option TableRow × Prefixes) → Outcome Placed
+after_row strict o = then_from o.answer o.after (λ x. some_row x.0 >>= λ row. row_placed strict row x.1)
 
 module _ (rows : Rows) (strict : Bool) (b : ℕ) (p : Prefixes) (s : State ℕ) where
-  row_follows : (r : Result (Map × ℕ) DecodeError) (t : State ℕ) → after_row strict (then_from r t (λ o. pure (rows o.0 (column_of p) o.1, seen_by o.0 o.1 p))) ≡ then_from r t (λ o. some_row (rows o.0 (column_of p) o.1) >>= λ row. row_step strict row (seen_by o.0 o.1 p))
+  row_follows : (r : Result (Map × ℕ) DecodeError) (t : State ℕ) → after_row strict (then_from r t (λ o. pure (rows o.0 (column_of p) o.1, seen_by o.0 o.1 p))) ≡ then_from r t (λ o. some_row (rows o.0 (column_of p) o.1) >>= λ row. row_placed strict row (seen_by o.0 o.1 p))
   unfolding after_row
   row_follows (Ok o) t = refl
   row_follows (Err e) t = refl
 
-  body : after_row strict (read_word rows p b s) ≡ body_step rows strict p b s
+  body : after_row strict (read_word rows p b s) ≡ body_placed rows strict p b s
   body = row_follows (opcode_step p b s).answer (opcode_step p b s).after
 
-  pub refused_after : (e : DecodeError) (t : State ℕ) → outcome (Err e) t ≡ read_word rows p b s → outcome (Err e) t ≡ body_step rows strict p b s
+  pub refused_after : (e : DecodeError) (t : State ℕ) → outcome (Err e) t ≡ read_word rows p b s → outcome (Err e) t ≡ body_placed rows strict p b s
   unfolding after_row
   refused_after e t h = ap (after_row strict) h ∙ body
 
-  pub row_after : (q : Prefixes) (word : ℕ) (o : Option TableRow) (t : State ℕ) → found_word q word t ≡ read_word rows p b s → unpack word ≡ o → (some_row o >>= λ row. row_step strict row q) t ≡ body_step rows strict p b s
+  pub row_after : (q : Prefixes) (word : ℕ) (o : Option TableRow) (t : State ℕ) → found_word q word t ≡ read_word rows p b s → unpack word ≡ o → (some_row o >>= λ row. row_placed strict row q) t ≡ body_placed rows strict p b s
   unfolding after_row
-  row_after q word o t h is = ap (λ o. (some_row o >>= λ row. row_step strict row q) t) (sym is) ∙ ap (after_row strict) h ∙ body
+  row_after q word o t h is = ap (λ o. (some_row o >>= λ row. row_placed strict row q) t) (sym is) ∙ ap (after_row strict) h ∙ body
 
   module _ (start : State ℕ) (head : Headed b p s (head_step start)) (plain : is_prefix b ≡ false) where
     -- what follows the run is the walk after its head
-    pub within : body_step rows strict p b s ≡ walk_within rows strict start
-    unfolding walk_within
-    within = ap (λ q. body_step rows strict q b s) head.1 ∙ ap (λ o. then_from o.answer o.after (λ h. body_step rows strict h.0 h.1)) (at_other head.0 b s plain ∙ head.2)
+    pub within : body_placed rows strict p b s ≡ walk_placed rows strict start
+    unfolding walk_placed
+    within = ap (λ q. body_placed rows strict q b s) head.1 ∙ ap (λ o. then_from o.answer o.after (λ h. body_placed rows strict h.0 h.1)) (at_other head.0 b s plain ∙ head.2)
 
 -- ---- a printed row is at an opcode byte
 
@@ -114,14 +114,14 @@ of_is_escaped o s h = grind (arith, nat_tests)
 -- ---- no legacy prefix, and an opcode byte that follows nothing or 0F
 
 module _ (strict : Bool) (start now : State ℕ) (b : ℕ) (p : Prefixes) (head : Headed b p now (head_step start)) (plain : column_of p ≡ Plain) (row : TableRow) where
-  pub without_escape : unpack (packed One Plain b) ≡ Some row → row_step strict row p now ≡ walk_within (rows_of packed) strict start
+  pub without_escape : unpack (packed One Plain b) ≡ Some row → row_placed strict row p now ≡ walk_placed (rows_of packed) strict start
   without_escape is =
       let opcode = opcode_at One b row is in
       let found : found_word p (packed One Plain b) now ≡ read_word (rows_of packed) p b now = ap (λ c. found_word p (packed One c b) now) (sym plain) ∙ found_plain (rows_of packed) p b now (one_is_plain b opcode) in
       row_after (rows_of packed) strict b p now p (packed One Plain b) (Some row) now found is
       ∙ within (rows_of packed) strict b p now start head (one_is_other b opcode)
 
-  pub after_escape : (o : ℕ) (after : State ℕ) → (b == 0x0f) ≡ true → outcome (Ok o) after ≡ next_byte now → unpack (packed Of Plain o) ≡ Some row → row_step strict row p after ≡ walk_within (rows_of packed) strict start
+  pub after_escape : (o : ℕ) (after : State ℕ) → (b == 0x0f) ≡ true → outcome (Ok o) after ≡ next_byte now → unpack (packed Of Plain o) ≡ Some row → row_placed strict row p after ≡ walk_placed (rows_of packed) strict start
   after_escape o after escape taken is =
       let opcode = opcode_at Of o row is in
       let lead : lead_of b ≡ Escape = grind (arith, nat_tests) in

@@ -12,15 +12,18 @@ use Rattle.x86_operands.specs.declared.operands.Slot.TheVariants as slots
 use Rattle.x86_operands.specs.declared.operands.Operand.{Operand}
 use Rattle.x86_operands.specs.declared.operands.MemoryAccessSize.{MemoryAccessSize}
 use Rattle.x86_operands.specs.Operands.{access_size, is_memory_slot}
+use Rattle.x86_operands.specs.declared.places.Places.{Places}
+use Rattle.x86_operands.specs.Places.{no_places}
 use Rattle.x86_operands.specs.OperandList.{no_operands, reading_with, slot_in, operand_in}
 use Rattle.x86_decode.specs.declared.instructions.Instruction.{Instruction}
 use Rattle.x86_decode.specs.declared.instructions.Shown.{Shown}
 
--- what was read, in an encoding of this length
-abbrev pub instruction_of : Reading → ℕ → Instruction
-instruction_of r length = record {
+-- what was read, in an encoding whose parts end there and that has this length
+abbrev pub instruction_of : Reading → Places → ℕ → Instruction
+instruction_of r places length = record {
   prefixes = r.prefixes;
   opcode = r.opcode;
+  places = places;
   operand_list = record { slots = r.slots; operands = r.operands; count = r.count; mem_size = r.mem_size };
   length = length;
 }
@@ -29,11 +32,16 @@ instruction_of r length = record {
 abbrev pub reading_in : Instruction → Reading
 reading_in i = reading_with i.opcode i.prefixes i.operand_list
 
+-- where the parts of its encoding end
+abbrev pub places_in : Instruction → Places
+places_in i = i.places
+
 -- the instruction that means none
 abbrev pub invalid_instruction : Instruction
 invalid_instruction = record {
   prefixes = reading_of [];
   opcode = Invalid;
+  places = no_places;
   operand_list = no_operands;
   length = 0;
 }
@@ -114,7 +122,7 @@ xacquire i = repnz i.prefixes && (lock i.prefixes || exchanges_memory i)
 abbrev pub xrelease : Instruction → Bool
 xrelease i = rep i.prefixes && (lock i.prefixes || (exchanges_memory i || ((i.opcode == MOV) && (not (is_rm_slot (slot_at i 0)) && is_release_slot (slot_at i 1)))))
 
--- what equality looks at: all but the length, and of slots and operands those below the count
+-- what equality looks at: all but the length and the places, and of slots and operands those below the count
 abbrev pub shown_of : Instruction → Shown
 shown_of i = record {
   prefixes = i.prefixes;

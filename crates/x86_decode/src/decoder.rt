@@ -11,7 +11,7 @@ ghost use Rattle.x86_decode.specs.Decoder.{is_strict};
 ghost use Rattle.x86_decode.specs.Answer.{answer_of, count_of};
 ghost use Rattle.x86_decode.specs.Answers.{Answers, HasMoved};
 ghost use Rattle.x86_decode.specs.Instruction.{holding, invalid_instruction};
-ghost use Rattle.x86_decode.specs.Walk.{rest_step, walk_within};
+ghost use Rattle.x86_decode.specs.Walk.{rest_step, walk_placed};
 
 use crate::instructions::Instruction;
 use crate::rows::{Rest, read_by_line};
@@ -44,7 +44,7 @@ fn read_plain<T: ReadIf>(reader: &mut T, inst: &mut Instruction) -> Result<Rest,
     requires { inst.old ≡ invalid_instruction }
     ensures read { IfOk result (λ rest. (strict : Bool) →
         rest_step strict inst.new rest (T.state reader.new)
-        ≡ walk_within (rows_of packed) strict (T.state reader.old)) }
+        ≡ walk_placed (rows_of packed) strict (T.state reader.old)) }
     ensures no_lock { lock inst.new.prefixes ≡ false }
 {
     let first = reader.next()?;

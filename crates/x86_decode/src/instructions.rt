@@ -6,25 +6,26 @@ ghost use Rattle.x86_decode.specs.contracts.instructions.ShownPartialEq.TheImpl.
 ghost use Rattle.x86_decode.specs.contracts.instructions.ShownEq.TheImpl.Laws as shown_equivalence;
 ghost use Rattle.x86_arch.specs.AddressDiff.{from_const};
 ghost use Rattle.x86_operands.specs.Operands.{visit_of};
-ghost use Rattle.x86_decode.specs.Instruction.{opcode, operand_count, length_of, invalid_instruction, slot_at, operand_at, operands_of, shown_of, segment_override_for_op, unless_ds, mem_size_of, xacquire, xrelease, exchanges_memory, is_release_slot, is_rm_slot};
+ghost use Rattle.x86_decode.specs.Instruction.{opcode, operand_count, length_of, places_in, invalid_instruction, slot_at, operand_at, operands_of, shown_of, segment_override_for_op, unless_ds, mem_size_of, xacquire, xrelease, exchanges_memory, is_release_slot, is_rm_slot};
 
 use x86_arch::{AddressDiff, LengthedInstruction};
 use x86_fields::Prefixes;
 use x86_opcodes::Opcode;
-use x86_operands::{MemoryAccessSize, Operand, OperandVisitor, Operands, Slot};
+use x86_operands::{MemoryAccessSize, Operand, OperandVisitor, Operands, Places, Slot};
 use x86_regs::Segment;
 
 /// An instruction: prefixes, opcode, at most four operands with the slots that they come from, the memory size that its
-/// row has, and the length of the encoding.
+/// row has, and of the encoding its length and the places of its parts.
 ///
-/// Two instructions are equal where all of this but the length is, so instructions from encodings of different length
-/// may be equal.
+/// Two instructions are equal where all of this but length and places is, so instructions from encodings of different
+/// length may be equal.
 #[derive(Clone, Copy, Debug, Drop)]
 pub struct Instruction {
     /// What the prefixes select, with the changes that the operation makes: where 66 chooses the operation it is
     /// cleared. Nothing ties this field to the operands once a caller has written to it.
     pub prefixes: Prefixes,
     pub(crate) opcode: Opcode,
+    pub(crate) places: Places,
     pub(crate) operand_list: Operands,
     pub(crate) length: u64,
 }
@@ -69,6 +70,7 @@ impl Instruction {
     pub(crate) const INVALID: Instruction = Instruction {
         prefixes: Prefixes::NONE,
         opcode: Opcode::Invalid,
+        places: Places::NONE,
         operand_list: Operands::NONE,
         length: 0,
     };
@@ -214,6 +216,17 @@ impl Instruction {
         ensures { result ≡ from_const (length_of self.now) }
     {
         AddressDiff::from_const(self.length)
+    }
+
+    /// Where the parts of the encoding end: of `48 03 44 25 00`, the opcode byte at 2, and ModRM, SIB and displacement
+    /// at 5. `answers` of the call that decoded says that these are the lengths of the pieces in the grammar.
+    ///
+    /// Source: Intel SDM volume 2, section 2.1.
+    #[inline(always)]
+    pub fn places(&self) -> Places
+        ensures { result ≡ places_in self.now }
+    {
+        self.places
     }
 
     /// The length of the shortest instructions: 1.

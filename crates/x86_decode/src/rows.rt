@@ -4,11 +4,9 @@ ghost use Rattle.x86_arch.specs.Reader.{State};
 ghost use Rattle.x86_fields.specs.Steps.{outcome, then_from};
 ghost use Rattle.x86_operands.specs.Encodings.{has_fields};
 ghost use Rattle.x86_operands.specs.OperandList.{value_if_ok, no_operands};
-ghost use Rattle.x86_operands.specs.PlanSteps.{read_plan};
 ghost use Rattle.x86_decode.specs.declared.rows.Rest.TheVariants as Rest;
 ghost use Rattle.x86_decode.specs.declared.instructions.Instruction.{Instruction};
-ghost use Rattle.x86_decode.specs.Instruction.{reading_in};
-ghost use Rattle.x86_decode.specs.Walk.{IsFound, IsLineOf, found_row_step, rest_step, row_step, is_nothing};
+ghost use Rattle.x86_decode.specs.Walk.{IsFound, IsLineOf, found_row_step, placed_in, rest_step, row_from, row_placed, is_nothing};
 
 use crate::instructions::Instruction;
 use x86_arch::Reader;
@@ -16,7 +14,7 @@ use x86_fields::{DecodeError, ModRM};
 use x86_forms::{WordRow, unpack};
 use x86_groups::{chosen, read_row_into, row_plan};
 use x86_opcodes::Opcode;
-use x86_operands::{AfterOpcode, FormEncoding, read_plan_into, word_encoding};
+use x86_operands::{AfterOpcode, FormEncoding, place_of, read_plan_into, word_encoding};
 
 /// What is left of a row that wasn't read at once.
 #[derive(Clone, Copy, Drop)]
@@ -51,7 +49,7 @@ fn line_without_modrm<'a>(found: &WordRow, encoding: &'a FormEncoding) -> Found<
     ensures found { IsFound found.now result }
     ensures read { (strict : Bool) (i : Instruction) (s : State ℕ) →
         found_row_step strict found.now.row i result s
-        ≡ row_step strict found.now.row i.prefixes s }
+        ≡ row_from i.places.opcode_end strict found.now.row i.prefixes s }
 {
     let modrm = ModRM::absent();
     if encoding.after_opcode.allows(modrm) {
@@ -73,7 +71,7 @@ fn read_line<'a, T: Reader<u64, u8>>(
 ) -> Result<Found<'a>, DecodeError>
     ensures read { (strict : Bool) (i : Instruction) →
         then_from result (T.state reader.new) (found_row_step strict found.now.row i) ≡
-        row_step strict found.now.row i.prefixes (T.state reader.old) }
+        row_from i.places.opcode_end strict found.now.row i.prefixes (T.state reader.old) }
     ensures found { IfOk result (IsFound found.now) }
 {
     let encoding = word_encoding(found);
@@ -114,14 +112,16 @@ pub fn read_by_line<T: Reader<u64, u8>>(
     reader: &mut T,
     inst: &mut Instruction,
 ) -> Result<Rest, DecodeError>
-    requires { inst.old.operand_list ≡ no_operands }
+    requires blank { inst.old.operand_list ≡ no_operands }
+    requires no_suffix { inst.old.places.has_suffix ≡ false }
     ensures read { (strict : Bool) →
         then_from result (T.state reader.new) (rest_step strict inst.new) ≡
-        row_step strict found.now.row inst.old.prefixes (T.state reader.old) }
+        row_placed strict found.now.row inst.old.prefixes (T.state reader.old) }
     ensures blank { IfOk result (λ rest. is_nothing rest ≡ false
         → inst.new.operand_list ≡ no_operands) }
     ensures same_prefixes { inst.new.prefixes ≡ inst.old.prefixes }
 {
+    inst.places.opcode_end = place_of(reader.offset());
     match read_line(found, reader) {
         Err(error) => Err(error),
         Ok(Found::Rest(rest)) => Ok(rest),
@@ -134,6 +134,7 @@ pub fn read_by_line<T: Reader<u64, u8>>(
                 found.number,
                 &inst.prefixes,
                 line.modrm,
+                &mut inst.places.address_end,
             )?;
             Ok(Rest::Nothing)
         }
@@ -149,7 +150,7 @@ fn read_after_modrm<T: Reader<u64, u8>>(
     inst: &mut Instruction,
 ) -> Result<(), DecodeError>
     requires { inst.old.operand_list ≡ no_operands }
-    ensures { outcome (value_if_ok result (reading_in inst.new)) (T.state reader.new) ≡
+    ensures { outcome (value_if_ok result (placed_in inst.new)) (T.state reader.new) ≡
         rest_step strict inst.old (Rest.AfterModRM word modrm) (T.state reader.old) }
 {
     let Some(row) = unpack(word) else {
@@ -159,10 +160,11 @@ fn read_after_modrm<T: Reader<u64, u8>>(
     let Instruction {
         prefixes,
         opcode,
+        places,
         operand_list,
         ..
     } = inst;
-    read_plan_into(reader, &plan, modrm, prefixes, opcode, operand_list)
+    read_plan_into(reader, &plan, modrm, prefixes, opcode, operand_list, places)
 }
 
 /// Reads what is left of a row.
@@ -174,7 +176,7 @@ pub fn read_rest<T: Reader<u64, u8>>(
     inst: &mut Instruction,
 ) -> Result<(), DecodeError>
     requires blank { is_nothing rest ≡ false → inst.old.operand_list ≡ no_operands }
-    ensures { outcome (value_if_ok result (reading_in inst.new)) (T.state reader.new) ≡
+    ensures { outcome (value_if_ok result (placed_in inst.new)) (T.state reader.new) ≡
         rest_step strict inst.old rest (T.state reader.old) }
 {
     match rest {
@@ -185,10 +187,11 @@ pub fn read_rest<T: Reader<u64, u8>>(
                 let Instruction {
                     prefixes,
                     opcode,
+                    places,
                     operand_list,
                     ..
                 } = inst;
-                read_row_into(reader, row, strict, prefixes, opcode, operand_list)
+                read_row_into(reader, row, strict, prefixes, opcode, operand_list, places)
             }
         },
         Rest::AfterModRM(word, modrm) => read_after_modrm(strict, word, modrm, reader, inst),

@@ -6,8 +6,8 @@ ghost use Rattle.x86_forms.specs.Words.{rows_of};
 ghost use Rattle.x86_operands.specs.OperandList.{value_if_ok, no_operands};
 ghost use Rattle.x86_decode.specs.Answer.{answer_of};
 ghost use Rattle.x86_decode.specs.Grammar.{allows_lock};
-ghost use Rattle.x86_decode.specs.Instruction.{holding, invalid_instruction, reading_in};
-ghost use Rattle.x86_decode.specs.Walk.{body_step, is_nothing, limit_step, rest_step, walk_bounded, walk_within, decode_step, takes_lock, judgement, error_at_limit};
+ghost use Rattle.x86_decode.specs.Instruction.{holding, invalid_instruction};
+ghost use Rattle.x86_decode.specs.Walk.{body_placed, is_nothing, limit_step, placed_in, rest_step, walk_bounded, walk_placed, decode_step, takes_lock, judgement, error_at_limit};
 
 use crate::bounded::{Bounded, Start, takes_rest};
 use crate::head::{read_on, read_word};
@@ -48,12 +48,13 @@ fn read_body<W: Words, T: Reader<u64, u8>>(
     inst: &mut Instruction,
     byte: u8,
 ) -> Result<Rest, DecodeError>
-    requires { inst.old.operand_list ≡ no_operands }
+    requires blank { inst.old.operand_list ≡ no_operands }
+    requires no_suffix { inst.old.places.has_suffix ≡ false }
     ensures blank { IfOk result (λ rest. is_nothing rest ≡ false
         → inst.new.operand_list ≡ no_operands) }
     ensures read { (strict : Bool) →
-        then_from result (T.state reader.new) (rest_step strict inst.new)
-        ≡ body_step (rows_of (W.word rows.now)) strict inst.old.prefixes byte (T.state reader.old) }
+        then_from result (T.state reader.new) (rest_step strict inst.new) ≡ body_placed
+        (rows_of (W.word rows.now)) strict inst.old.prefixes byte (T.state reader.old) }
 {
     let word = read_word(rows, reader, &mut inst.prefixes, byte)?;
     match word_row(word) {
@@ -74,7 +75,7 @@ fn read_encoding<W: Words, T: Reader<u64, u8>>(
         → inst.new.operand_list ≡ no_operands) }
     ensures read { (strict : Bool) →
         then_from result (T.state reader.new) (rest_step strict inst.new)
-        ≡ walk_within (rows_of (W.word rows.now)) strict (T.state reader.old) }
+        ≡ walk_placed (rows_of (W.word rows.now)) strict (T.state reader.old) }
 {
     let byte = read_on(reader, &mut inst.prefixes)?;
     read_body(rows, reader, inst, byte)
@@ -90,8 +91,8 @@ fn walk_within<W: Words, T: Reader<u64, u8>>(
     inst: &mut Instruction,
 ) -> (Result<(), DecodeError>, T)
     requires { inst.old ≡ invalid_instruction }
-    ensures { outcome (value_if_ok result.0 (reading_in inst.new)) (T.state result.1)
-        ≡ walk_within (rows_of (W.word rows.now)) strict (T.state reader) }
+    ensures { outcome (value_if_ok result.0 (placed_in inst.new)) (T.state result.1)
+        ≡ walk_placed (rows_of (W.word rows.now)) strict (T.state reader) }
 {
     let mut reader = reader;
     match read_encoding(rows, &mut reader, inst) {

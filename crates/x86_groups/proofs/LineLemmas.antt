@@ -12,9 +12,10 @@ use Rattle.x86_operands.specs.Columns.{choose, named, plan_of_row}
 use Rattle.x86_groups.specs.Rows.{group_rows}
 use Rattle.x86_groups.specs.Groups.{Chooses, has_either_form, reg_plan, group_fault, group_modrm, group_plan, group_record}
 use Rattle.x86_arch.specs.Reader.{State}
-use Rattle.x86_fields.specs.Steps.{then_from, ◌>>=◌}
+use Rattle.x86_fields.specs.Steps.{Step, then_from, ◌>>=◌}
 use Rattle.x86_forms.specs.Groups.{is_group}
-use Rattle.x86_operands.specs.PlanSteps.{read_modrm, read_plan, record_step}
+use Rattle.x86_operands.specs.PlanSteps.{read_modrm, read_plan, record_step, refuse_fault}
+use Rattle.x86_operands.specs.Places.{plan_placed, record_placed}
 use Rattle.x86_forms.specs.Words.{carried}
 use denote.Enum.Declared.{tag_of}
 
@@ -101,15 +102,25 @@ reg_form g f e = rw e (refl, refl, refl)
 fault_of_form : (g : RegGroup) (f : Form) (p : Prefixes) → f ≡ group_form g → group_fault f p ≡ None
 fault_of_form g f p e = grind arith
 
-same_following : (r : Result ℕ DecodeError) (s : State ℕ) (p : Prefixes) (a b : ℕ → Plan) → ((m : ℕ) → a m ≡ b m) → then_from r s (λ m. read_plan (a m) p m) ≡ then_from r s (λ m. read_plan (b m) p m)
-same_following (Ok m) s p a b same = ap (λ plan. read_plan plan p m s) (same m)
-same_following (Err x) s p a b same = refl
+same_following : {X : Type 0} (next : Plan → ℕ → Step X) (r : Result ℕ DecodeError) (s : State ℕ) (a b : ℕ → Plan) → ((m : ℕ) → a m ≡ b m) → then_from r s (λ m. next (a m) m) ≡ then_from r s (λ m. next (b m) m)
+same_following next (Ok m) s a b same = ap (λ plan. next plan m s) (same m)
+same_following next (Err x) s a b same = refl
+
+-- whatever follows a plan
+reg_followed : {X : Type 0} (next : Plan → ℕ → Step X) (g : RegGroup) (strict : Bool) (row : TableRow) (p : Prefixes) (s : State ℕ) → row.form ≡ group_form g →
+    (refuse_fault (group_fault row.form p) >>= λ _. read_modrm (group_modrm row.form) >>= λ m. next (group_plan row p m strict) m) s ≡ (read_modrm EitherForm >>= λ m. next (reg_plan g p m) m) s
+reg_followed next g strict row p s e =
+    rw (fault_of_form g row.form p e, (reg_form g row.form e).2)
+    (same_following next (read_modrm EitherForm s).answer (read_modrm EitherForm s).after (λ m. group_plan row p m strict) (λ m. reg_plan g p m) (λ m. reg_chosen g strict row p m e))
 
 pub reg_record : (g : RegGroup) (strict : Bool) (row : TableRow) (p : Prefixes) (s : State ℕ) → row.form ≡ group_form g → record_step (group_record strict row p) p s ≡ (read_modrm EitherForm >>= λ m. read_plan (reg_plan g p m) p m) s
 unfolding record_step group_record
-reg_record g strict row p s e =
-    rw (fault_of_form g row.form p e, (reg_form g row.form e).2)
-    (same_following (read_modrm EitherForm s).answer (read_modrm EitherForm s).after p (λ m. group_plan row p m strict) (λ m. reg_plan g p m) (λ m. reg_chosen g strict row p m e))
+reg_record g strict row p s e = reg_followed (λ plan m. read_plan plan p m) g strict row p s e
+
+-- the same with the places of the parts
+pub reg_placed : (opcode_end : ℕ) (g : RegGroup) (strict : Bool) (row : TableRow) (p : Prefixes) (s : State ℕ) → row.form ≡ group_form g → record_placed opcode_end (group_record strict row p) p s ≡ (read_modrm EitherForm >>= λ m. plan_placed opcode_end (reg_plan g p m) p m) s
+unfolding record_placed group_record
+reg_placed opcode_end g strict row p s e = reg_followed (λ plan m. plan_placed opcode_end plan p m) g strict row p s e
 
 pub reg_group : (g : RegGroup) (f : Form) → f ≡ group_form g → is_group f ≡ true
 reg_group g f e = (reg_form g f e).0

@@ -10,6 +10,7 @@ ghost use Rattle.x86_arch.specs.Reader.{State};
 ghost use Rattle.x86_fields.specs.Steps.{outcome};
 ghost use Rattle.x86_forms.specs.Groups.{is_group};
 ghost use Rattle.x86_operands.specs.PlanSteps.{record_step};
+ghost use Rattle.x86_operands.specs.Places.{record_placed};
 ghost use Rattle.x86_operands.specs.OperandList.{value_if_ok, no_operands, reading_with};
 ghost use Rattle.x86_forms.specs.Words.{IsForm};
 ghost use Rattle.x86_groups.specs.Groups.{group_record, record_of};
@@ -25,11 +26,13 @@ use x86_arch::Reader;
 use x86_fields::{DecodeError, Prefixes};
 use x86_forms::TableRow;
 use x86_opcodes::Opcode;
-use x86_operands::{Operands, Reading, read_modrm, read_plan, read_plan_into, refuse_fault};
+use x86_operands::{
+    Operands, Places, Reading, read_modrm, read_plan, read_plan_into, refuse_fault,
+};
 
-/// What a row has after its opcode byte, written into blank operands.
+/// What a row has after its opcode byte, written into blank operands, and the places of its parts.
 #[inline(never)]
-#[tactic(auto, unfolding(x86_operands::specs::PlanSteps::record_step))]
+#[tactic(auto, unfolding(x86_operands::specs::Places::record_placed), using(x86_operands::proofs::PlaceLemmas::plan_is_placed))]
 pub fn read_row_into<T: Reader<u64, u8>>(
     reader: &mut T,
     row: TableRow,
@@ -37,17 +40,19 @@ pub fn read_row_into<T: Reader<u64, u8>>(
     prefixes: &mut Prefixes,
     opcode: &mut Opcode,
     operand_list: &mut Operands,
+    places: &mut Places,
 ) -> Result<(), DecodeError>
     requires form { IsForm row.form }
     requires blank { operand_list.old ≡ no_operands }
     ensures { outcome
-        (value_if_ok result (reading_with opcode.new prefixes.new operand_list.new)) (T.state reader.new)
-        ≡ record_step (record_of strict row prefixes.old) prefixes.old (T.state reader.old) }
+        (value_if_ok result (reading_with opcode.new prefixes.new operand_list.new, places.new))
+        (T.state reader.new) ≡ record_placed places.old.opcode_end
+        (record_of strict row prefixes.old) prefixes.old (T.state reader.old) }
 {
     refuse_fault(row_fault(&row, prefixes))?;
     let modrm = read_modrm(reader, row_modrm(&row))?;
     let plan = row_plan(&row, strict, prefixes, modrm);
-    read_plan_into(reader, &plan, modrm, prefixes, opcode, operand_list)
+    read_plan_into(reader, &plan, modrm, prefixes, opcode, operand_list, places)
 }
 
 /// What a row has after its opcode byte.

@@ -6,6 +6,7 @@ pub mod Rex
 pub mod Respell
 pub mod PlanAlike
 pub mod Relative
+pub mod RegisterForm
 pub mod Bytes
 pub mod Tighten
 pub mod Same

@@ -1,7 +1,7 @@
 //! The parts of an encoding: split off its bytes, owned, and written as bytes.
 
+pub mod bytes;
 pub mod emit;
 pub mod entries;
 pub mod fields;
-pub mod heads;
 pub mod split;

@@ -1,5 +1,5 @@
 -- What an encoding writes in place is what its plan yields.
-use Rattle.std.proofs.Common.{◌≡◌, ℕ, Bool, true, false, if◌then◌else◌, ◌≢◌, refl, ap, ◌∙◌, Ok, Err, Result, None, Some, Option, arith}
+use Rattle.std.proofs.Common.{◌≡◌, ℕ, Bool, true, false, if◌then◌else◌, ◌≢◌, refl, ap, ◌∙◌, Ok, Err, Result, None, Some, Option, arith, sym}
 use Rattle.x86_arch.specs.Reader.{State}
 use Rattle.x86_operands.specs.Vocabulary.{DecodeError, Prefixes, Raw, Slot, Operand, OperandEncoding, OperandEncodings, Position, Nowhere, Order, AfterOpcode, Width, FormEncoding, Reading, Operands, is_memory, absent_modrm, class_of, register_of, reg_spec, rm_field}
 use Rattle.x86_fields.specs.declared.sizes.Width.TheVariants as width
@@ -9,7 +9,7 @@ use Rattle.x86_operands.specs.PlanSteps.{read_plan, read_memory, filled_step, op
 use Rattle.x86_operands.specs.Plans.{list_of, reads, rm_number}
 use Rattle.x86_operands.specs.Operands.{shape}
 use Rattle.x86_operands.specs.Encodings.{index_of_position, is_last, settled, somewhere, reg_encoding, rm_encoding, encodings_in, plan_of, size_bytes, size_at, is_order, has_modrm, has_register, order_fits, allows}
-use Rattle.x86_operands.specs.OperandList.{encoded_read, put_encoded, put_in, placed, reg_pair, fixed_pair, reading_with, sized, last_read, operands_read}
+use Rattle.x86_operands.specs.OperandList.{encoded_read, put_encoded, put_in, placed, reg_pair, fixed_pair, reading_with, sized, last_read, leading_read, operands_read}
 use Rattle.x86_operands.proofs.OrderLemmas.{Named, no_named, named_of, accepted, no_memory, no_modrm}
 
 abbrev Pair : Type 0
@@ -93,6 +93,16 @@ module _ (e : FormEncoding) (n opcode : ℕ) (p : Prefixes) (m : ℕ) where
   memory_by : (test : Bool) (s : State ℕ) → somewhere e.order.rm ≡ test → order_fits e.after_opcode e.order ≡ true → allows e.after_opcode m ≡ true → read_memory p m s ≡ (if test then read_memory p m else pure None) s
   memory_by true s i f a = refl
   memory_by false s i f a = rw (no_memory e.after_opcode m (no_modrm e.after_opcode (somewhere e.order.reg) (rw i at f)) a) refl
+
+  -- the operands of reg and rm end where SIB and displacement do
+  ends_with_memory : (r : Result (Option Raw) DecodeError) (u : State ℕ) (operand_list : Operands) → (then_from r u (λ memory. pure (placed e n p m memory operand_list))).after ≡ u
+  ends_with_memory (Ok memory) u operand_list = refl
+  ends_with_memory (Err x) u operand_list = refl
+
+  pub address_is_read : (s t : State ℕ) (r : Result Operands DecodeError) (operand_list : Operands) → order_fits e.after_opcode e.order ≡ true → allows e.after_opcode m ≡ true → outcome r t ≡ leading_read e n p m operand_list s → t ≡ (read_memory p m s).after
+  address_is_read s t r operand_list f a h =
+      let memory : Outcome (Option Raw) = (if somewhere e.order.rm then read_memory p m else pure None) s in
+      ap (λ o. o.after) h ∙ ends_with_memory memory.answer memory.after operand_list ∙ ap (λ o. o.after) (sym (memory_by (somewhere e.order.rm) s refl f a))
 
   pub plan_is_read : (s : State ℕ) → is_order e.order ≡ true → is_last e.last ≡ true → order_fits e.after_opcode e.order ≡ true → allows e.after_opcode m ≡ true →
       read_plan (plan_of e n opcode p m) p m s ≡ (operands_read e n p m (sized e.order.count size) >>= λ operand_list. pure (reading_with opcode p operand_list)) s

@@ -1,11 +1,10 @@
 -- The orders of a sound line, and what follows where it accepts.
-use Rattle.std.proofs.Common.{◌≡◌, ℕ, Bool, true, false, not, if◌then◌else◌, IsTrue, arith, sym, ap, ◌∙◌}
+use Rattle.std.proofs.Common.{◌≡◌, ℕ, Bool, true, false, not, if◌then◌else◌, IsTrue, arith, ap, ◌∙◌}
 use Rattle.std.proofs.lemmas.Bool.{and_parts, eqb-true}
 use Rattle.x86_operands.specs.Vocabulary.{OperandEncodings, Position, First, Second, Third, Nowhere, Order, AfterOpcode, FormEncoding, is_memory, Prefixes, Ask, Width, ModrmUse, OperandEncoding}
-use Rattle.x86_opcodes.specs.Names.{Invalid}
 use Rattle.x86_operands.specs.Plans.{reads}
 use Rattle.x86_operands.specs.Encodings.{restricted_plan, is_last, is_described, is_sound, is_order_of, is_order, has_modrm, has_register, order_fits, allows, size_bytes, settled, plan_of, reg_encoding, rm_encoding, encodings_in, size_at, somewhere, use_of}
-use Rattle.x86_operands.specs.Asks.{uses_modrm, immediates_width, plan_ask, encoding_ask, immediate_width}
+use Rattle.x86_operands.specs.Asks.{uses_modrm, immediates_width, plan_ask, immediate_width}
 
 -- ---- the orders
 
@@ -83,6 +82,3 @@ pub line_has_ask : (e : FormEncoding) (n opcode : ℕ) (p : Prefixes) (m : ℕ) 
 line_has_ask e n opcode p m h =
     restricted_ask e.after_opcode (use_of e.after_opcode) m opcode (size_bytes (size_at e m) opcode p) (encodings_in e.order (reg_encoding e.after_opcode e.reg n) (rm_encoding e.after_opcode e.rm) (settled e.last 0 p))
     ∙ ap (AskWith (use_of e.after_opcode) m) (width_in (named_of e.order.reg e.order.rm e.order.last e.order.count (sound_parts e h).0) (reg_encoding e.after_opcode e.reg n) (rm_encoding e.after_opcode e.rm) (settled e.last 0 p) (reg_width e.after_opcode e.reg n) (rm_width e.after_opcode e.rm))
-
-pub encoding_has_ask : (e : FormEncoding) (n opcode : ℕ) (p : Prefixes) (m : ℕ) → is_sound e ≡ true → plan_ask (use_of e.after_opcode) m (plan_of e n opcode p m) ≡ encoding_ask e p m
-encoding_has_ask e n opcode p m h = line_has_ask e n opcode p m h ∙ sym (line_has_ask e 0 Invalid p m h)

@@ -24,7 +24,7 @@ memory_by false p m is = ends_pure (Only (SpellsMemory p m)) (λ q. EndsBetween 
 ends_memory : (p : Prefixes) (m : ℕ) → EndsWell (Only (SpellsMemory p m)) (λ q. EndsBetween (memory_widths m q) q) (read_memory p m)
 ends_memory p m = memory_by (is_memory m) p m refl
 
-takes_memory : (p : Prefixes) (m : ℕ) (q : List ℕ) (memory : Option Raw) → SpellsMemory p m q memory → Takes (read_memory p m) q (Ok memory)
+pub takes_memory : (p : Prefixes) (m : ℕ) (q : List ℕ) (memory : Option Raw) → SpellsMemory p m q memory → Takes (read_memory p m) q (Ok memory)
 takes_memory p m q (Some raw) h = rw h.0 (takes_map (read_raw p m) Some q raw (takes_raw p m q raw h.1))
 takes_memory p m q None h = rw h.0 (subst (λ l. Takes {X = Option Raw} (pure None) l (Ok None)) (sym h.1) (takes_pure (Ok None)))
 

@@ -37,7 +37,7 @@ ends_modrm Absent = ends_pure (Only (IsModrm Absent)) IsEmpty absent_modrm (refl
 ends_modrm EitherForm = ends_map IsByte IsEmpty (IsModrm EitherForm) next_byte (λ m. m) ends_byte (λ q b h. (ap length h, sym (ap (modrm_of EitherForm) h)))
 ends_modrm Registers = ends_map IsByte IsEmpty (IsModrm Registers) next_byte as_register ends_byte (λ q b h. (ap length h, sym (ap (modrm_of Registers) h)))
 
-takes_modrm : (u : ModrmUse) (q : List ℕ) → length q ≡ modrm_width u → Takes (read_modrm u) q (Ok (modrm_of u q))
+pub takes_modrm : (u : ModrmUse) (q : List ℕ) → length q ≡ modrm_width u → Takes (read_modrm u) q (Ok (modrm_of u q))
 takes_modrm Absent [] e = takes_pure (Ok absent_modrm)
 takes_modrm EitherForm (m ∷ []) e = takes_map next_byte (λ m. m) (m ∷ []) m (takes_byte m)
 takes_modrm Registers (m ∷ []) e = takes_map next_byte as_register (m ∷ []) m (takes_byte m)

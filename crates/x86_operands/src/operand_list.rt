@@ -1,13 +1,15 @@
 //! The operands of an instruction: what their encodings yield, written where it stays.
 
-ghost use Rattle.std.specs.Prelude.{◌≡◌, ◌<◌, ◌≢◌, ℕ, Option, true};
+ghost use Rattle.std.specs.Prelude.{◌≡◌, ◌<◌, ◌≢◌, ℕ, Option, true, OnOk};
 ghost use Rattle.x86_fields.specs.Steps.{outcome};
 ghost use Rattle.x86_operands.specs.Vocabulary.{Nowhere, Prefixes, Raw};
 ghost use Rattle.x86_operands.specs.PlanSteps.{memory_or, read_plan, register_slot};
 ghost use Rattle.x86_operands.specs.OperandList.{reg_pair, fixed_pair, no_operands, reading_with, value_if_ok, put_in, put_at, put_encoded, encoded_read, leading_read, slot_in, operand_in};
+ghost use Rattle.x86_operands.specs.Places.{place_after_address};
 ghost use Rattle.x86_operands.specs.Encodings.{plan_of, settled, is_last, allows, is_sound, order_fits};
 
 use crate::order::Position;
+use crate::places::place_of;
 use crate::plans::{OperandEncoding, RegisterSlot};
 use crate::shapes::put_shape;
 use crate::{AfterOpcode, FormEncoding, Operand, Slot};
@@ -259,7 +261,7 @@ impl Operands {
         Operands::NONE
     }
 
-    /// What an encoding has after ModRM, where it doesn't refuse.
+    /// What an encoding has after ModRM, where it doesn't refuse, and the place after SIB and displacement.
     #[tactic(auto, using(crate::proofs::InPlaceLemmas::plan_is_read, crate::proofs::OrderLemmas::sound_parts))]
     #[inline(always)]
     pub fn read<T: Reader<u64, u8>>(
@@ -270,19 +272,23 @@ impl Operands {
         num: u8,
         prefixes: &Prefixes,
         modrm: ModRM,
+        address_end: &mut u8,
     ) -> Result<(), DecodeError>
         requires blank { self.old ≡ no_operands }
         requires small { num < 8 }
         requires sound { is_sound encoding.now ≡ true }
         requires allowed { allows encoding.now.after_opcode modrm ≡ true }
-        ensures { outcome (value_if_ok result (reading_with opcode prefixes.now self.new))
+        ensures read { outcome (value_if_ok result (reading_with opcode prefixes.now self.new))
             (T.state reader.new) ≡ read_plan (plan_of encoding.now num opcode prefixes.now modrm)
             prefixes.now modrm (T.state reader.old) }
+        ensures address { OnOk result
+            (address_end.new ≡ place_after_address prefixes.now modrm (T.state reader.old)) }
     {
         let fields = PrefixedModRM::of(prefixes, modrm);
         self.count = encoding.order.count;
         self.mem_size = encoding.mem_size(fields.in_memory, opcode, fields.sizes);
         self.read_leading(reader, encoding, num, &fields)?;
+        *address_end = place_of(reader.offset());
         match encoding.order.last {
             Position::Nowhere => Ok(()),
             at => self.read_last(at, reader, encoding.last, prefixes),

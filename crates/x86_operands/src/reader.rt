@@ -1,12 +1,14 @@
 //! The one reader of plans: what a record has after its opcode byte.
 ghost use Rattle.x86_operands.specs.OperandList.{value_if_ok, no_operands, reading_with};
-ghost use Rattle.std.specs.Prelude.{◌≡◌, ℕ, ◌<◌, ◌∷◌, []};
+ghost use Rattle.std.specs.Prelude.{◌≡◌, ℕ, ◌<◌, ◌∷◌, [], OnOk};
 ghost use Rattle.x86_arch.specs.Reader.{State};
 ghost use Rattle.x86_fields.specs.Steps.{outcome};
 ghost use Rattle.x86_operands.specs.Plans.{list_of};
+ghost use Rattle.x86_operands.specs.Places.{plan_places};
 ghost use Rattle.x86_operands.specs.PlanSteps.{suffix_opcode, filled_step, refuse_at, read_opcode, read_memory, read_plan, read_modrm, refuse_fault};
 
 use crate::operand_list::Operands;
+use crate::places::{Places, place_of};
 use crate::plans::{Fault, ModrmUse, Moment, OperandEncodings, Plan, PrefixChange, Verdict};
 use crate::{Operand, Slot, used_modrm};
 use x86_arch::Reader;
@@ -164,7 +166,7 @@ impl Operands {
     }
 }
 
-/// What a record has after its ModRM, written into blank operands.
+/// What a record has after its ModRM, written into blank operands, and the places of its parts.
 #[tactic(auto, unfolding(crate::specs::PlanSteps::read_plan))]
 pub fn read_plan_into<T: Reader<u64, u8>>(
     reader: &mut T,
@@ -173,13 +175,19 @@ pub fn read_plan_into<T: Reader<u64, u8>>(
     prefixes: &mut Prefixes,
     opcode: &mut Opcode,
     operand_list: &mut Operands,
+    places: &mut Places,
 ) -> Result<(), DecodeError>
     requires { operand_list.old ≡ no_operands }
-    ensures { outcome (value_if_ok result (reading_with opcode.new prefixes.new operand_list.new))
+    ensures read { outcome
+        (value_if_ok result (reading_with opcode.new prefixes.new operand_list.new))
         (T.state reader.new) ≡ read_plan plan.now prefixes.old modrm (T.state reader.old) }
+    ensures places { OnOk result (places.new ≡ plan_places plan.now prefixes.old modrm
+        (T.state reader.old) places.old.opcode_end) }
 {
     refuse_at(plan.verdict, Moment::AtModRM)?;
     let memory = read_memory(reader, prefixes, modrm)?;
+    places.address_end = place_of(reader.offset());
+    places.has_suffix = matches!(plan.verdict, Verdict::NamedBySuffix);
     refuse_at(plan.verdict, Moment::AfterAddress)?;
     operand_list.put_operands(reader, plan.encodings, prefixes, modrm, memory)?;
     *opcode = read_opcode(reader, plan.verdict, plan.opcode)?;
@@ -219,6 +227,7 @@ pub fn read_plan<T: Reader<u64, u8>>(
     let mut prefixes = prefixes;
     let mut opcode = plan.opcode;
     let mut operand_list = Operands::none();
+    let mut places = Places::NONE;
     read_plan_into(
         reader,
         plan,
@@ -226,6 +235,7 @@ pub fn read_plan<T: Reader<u64, u8>>(
         &mut prefixes,
         &mut opcode,
         &mut operand_list,
+        &mut places,
     )?;
     Ok(Reading {
         opcode,

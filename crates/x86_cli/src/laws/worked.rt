@@ -7,7 +7,7 @@ ghost use Rattle.x86_decode.specs.Answer.{answer_of};
 ghost use Rattle.x86_decode.specs.Grammar.{Decides};
 ghost use Rattle.x86_decode.specs.Instruction.{instruction_of};
 ghost use Rattle.x86_cli.specs.Headline.{Sentence};
-ghost use Rattle.x86_cli.specs.Worked.{add_rax_rbx, mov_rax_at_rbp, neg_eax, add_at_rbx_rax, pshufb_xmm0_xmm1};
+ghost use Rattle.x86_cli.specs.Worked.{add_rax_rbx, mov_rax_at_rbp, neg_eax, add_at_rbx_rax, places_at, pshufb_xmm0_xmm1};
 
 use crate::laws::headline_of_bytes;
 use x86_decode::laws::decided_bytes_are_refused;
@@ -15,9 +15,10 @@ use x86_decode::laws::decided_bytes_are_refused;
 /// `48 01 d8` is ADD rax, rbx, with a memory size of 8 bytes, whatever follows it.
 pub fn add()
     ensures sentence { (strict : Bool) →
-        Sentence strict (0x48 ∷ 0x01 ∷ 0xd8 ∷ []) (instruction_of add_rax_rbx 3) }
+        Sentence strict (0x48 ∷ 0x01 ∷ 0xd8 ∷ []) (instruction_of add_rax_rbx (places_at 2 3) 3) }
     ensures answer { (strict : Bool) (rest : List ℕ) →
-        answer_of strict (0x48 ∷ 0x01 ∷ 0xd8 ∷ rest) ≡ Ok (instruction_of add_rax_rbx 3) }
+        answer_of strict (0x48 ∷ 0x01 ∷ 0xd8 ∷ rest)
+        ≡ Ok (instruction_of add_rax_rbx (places_at 2 3) 3) }
 {
     headline_of_bytes();
 }
@@ -25,9 +26,11 @@ pub fn add()
 /// `48 8b 45 00` is MOV rax, [rbp], with a memory size of 8 bytes, whatever follows it.
 pub fn load()
     ensures sentence { (strict : Bool) →
-        Sentence strict (0x48 ∷ 0x8b ∷ 0x45 ∷ 0x00 ∷ []) (instruction_of mov_rax_at_rbp 4) }
+        Sentence strict (0x48 ∷ 0x8b ∷ 0x45 ∷ 0x00 ∷ [])
+        (instruction_of mov_rax_at_rbp (places_at 2 4) 4) }
     ensures answer { (strict : Bool) (rest : List ℕ) →
-        answer_of strict (0x48 ∷ 0x8b ∷ 0x45 ∷ 0x00 ∷ rest) ≡ Ok (instruction_of mov_rax_at_rbp 4) }
+        answer_of strict (0x48 ∷ 0x8b ∷ 0x45 ∷ 0x00 ∷ rest)
+        ≡ Ok (instruction_of mov_rax_at_rbp (places_at 2 4) 4) }
 {
     headline_of_bytes();
 }
@@ -35,9 +38,9 @@ pub fn load()
 /// `f7 d8` is NEG eax, with a memory size of 4 bytes: a row of group 3, which reg 3 chooses.
 pub fn group()
     ensures sentence { (strict : Bool) →
-        Sentence strict (0xf7 ∷ 0xd8 ∷ []) (instruction_of neg_eax 2) }
+        Sentence strict (0xf7 ∷ 0xd8 ∷ []) (instruction_of neg_eax (places_at 1 2) 2) }
     ensures answer { (strict : Bool) (rest : List ℕ) →
-        answer_of strict (0xf7 ∷ 0xd8 ∷ rest) ≡ Ok (instruction_of neg_eax 2) }
+        answer_of strict (0xf7 ∷ 0xd8 ∷ rest) ≡ Ok (instruction_of neg_eax (places_at 1 2) 2) }
 {
     headline_of_bytes();
 }
@@ -46,9 +49,11 @@ pub fn group()
 /// its first slot.
 pub fn locked_add()
     ensures sentence { (strict : Bool) →
-        Sentence strict (0xf0 ∷ 0x48 ∷ 0x01 ∷ 0x03 ∷ []) (instruction_of add_at_rbx_rax 4) }
+        Sentence strict (0xf0 ∷ 0x48 ∷ 0x01 ∷ 0x03 ∷ [])
+        (instruction_of add_at_rbx_rax (places_at 3 4) 4) }
     ensures answer { (strict : Bool) (rest : List ℕ) →
-        answer_of strict (0xf0 ∷ 0x48 ∷ 0x01 ∷ 0x03 ∷ rest) ≡ Ok (instruction_of add_at_rbx_rax 4) }
+        answer_of strict (0xf0 ∷ 0x48 ∷ 0x01 ∷ 0x03 ∷ rest)
+        ≡ Ok (instruction_of add_at_rbx_rax (places_at 3 4) 4) }
 {
     headline_of_bytes();
 }
@@ -57,10 +62,11 @@ pub fn locked_add()
 /// record sees the prefixes without 66.
 pub fn chosen_by_66()
     ensures sentence { (strict : Bool) →
-        Sentence strict (0x66 ∷ 0x0f ∷ 0x38 ∷ 0x00 ∷ 0xc1 ∷ []) (instruction_of pshufb_xmm0_xmm1 5) }
+        Sentence strict (0x66 ∷ 0x0f ∷ 0x38 ∷ 0x00 ∷ 0xc1 ∷ [])
+        (instruction_of pshufb_xmm0_xmm1 (places_at 4 5) 5) }
     ensures answer { (strict : Bool) (rest : List ℕ) →
         answer_of strict (0x66 ∷ 0x0f ∷ 0x38 ∷ 0x00 ∷ 0xc1 ∷ rest)
-        ≡ Ok (instruction_of pshufb_xmm0_xmm1 5) }
+        ≡ Ok (instruction_of pshufb_xmm0_xmm1 (places_at 4 5) 5) }
 {
     headline_of_bytes();
 }

@@ -17,7 +17,7 @@ use Rattle.x86_operands.proofs.RecordLemmas.{takes_row}
 use Rattle.x86_decode.specs.declared.instructions.Instruction.{Instruction}
 use Rattle.x86_decode.specs.Head.{column_of, escape_bytes, is_opcode, seen_by}
 use Rattle.x86_groups.specs.Groups.{record_of}
-use Rattle.x86_decode.specs.Grammar.{allows_lock, IsAccepted, IsAnswer}
+use Rattle.x86_decode.specs.Grammar.{allows_lock, places_of, IsAccepted, IsAnswer}
 use Rattle.x86_decode.specs.Instruction.{instruction_of}
 use Rattle.x86_decode.specs.Answer.{answer_of, count_of}
 use Rattle.x86_layout.specs.declared.parts.fields.Fields as fields
@@ -89,22 +89,23 @@ emitted_by strict f e n h =
     let q : Prefixes = seen_by n.map f.opcode (reading_of f.prefixes.items) in
     let r = record_of strict n.row q in
     let s = spelled r q f h.1 h.2 in
+    let whole : Encoding strict (joined (lists_in f)) s.reading = record {
+      run = f.prefixes.items;
+      map = n.map;
+      opcode = f.opcode;
+      row = n.row;
+      tail = tail_of f;
+      spelled = ap (λ l. f.prefixes.items ++ (l ++ f.opcode ∷ tail_of f)) n.escape;
+      prefixes = h.0;
+      in_map = n.in_map;
+      has_row = n.has_row;
+      row_spelled = s.row;
+    } in
     record {
-      answer = instruction_of s.reading (length (joined (lists_in f)));
+      answer = instruction_of s.reading (places_of (rows_of packed) strict (joined (lists_in f)) s.reading whole) (length (joined (lists_in f)));
       sentence = record {
         reading = s.reading;
-        whole = record {
-          run = f.prefixes.items;
-          map = n.map;
-          opcode = f.opcode;
-          row = n.row;
-          tail = tail_of f;
-          spelled = ap (λ l. f.prefixes.items ++ (l ++ f.opcode ∷ tail_of f)) n.escape;
-          prefixes = h.0;
-          in_map = n.in_map;
-          has_row = n.has_row;
-          row_spelled = s.row;
-        };
+        whole = whole;
         lock = sym (reading_is r q (tail_of f) s.reading s.row) ∙ h.3;
         short = (short_is (length (joined (lists_in f)))).0 h.4;
         yields = refl;

@@ -14,10 +14,8 @@ use Rattle.x86_operands.specs.Plans.{RowRecord}
 use Rattle.x86_operands.specs.Asks.{modrm_of, used_modrm, ask_of, immediates_width}
 use Rattle.x86_operands.specs.Pieces.{SpellsMemory, SpellsRow}
 use Rattle.x86_decode.specs.Head.{escape_bytes, seen_by}
-use Rattle.x86_layout.specs.declared.parts.heads.Head.{Head}
-use Rattle.x86_fields.specs.declared.parts.Parts.{Parts}
-use Rattle.x86_fields.specs.Parts.{PartLists, lists_of, HasFieldLengths}
-use Rattle.x86_layout.specs.Parts.Heads.{one_if, IsHead, IsTail}
+use Rattle.x86_fields.specs.Parts.{PartLists, HasFieldLengths}
+use Rattle.x86_layout.specs.Parts.Heads.{one_if}
 use Rattle.x86_layout.specs.Parts.Split.{Encoding, record_in, sib_width, HasParts, joined}
 use Rattle.x86_layout.specs.Parts.OfBytes.{ask_by, ask_after_run, displacement_length_by, run_in, after_run, map_in, opcode_in, tail_in, ask_in, modrm_in, sib_in, displacement_in, immediate_in, suffix_in, parts_of}
 use Rattle.x86_layout.proofs.PartLemmas.Part.{cut_is, halves, run_length_is, map_is, as_it_is, read_as, modrm_count, sib_count, immediate_count, suffix_count, immediates_long}
@@ -155,16 +153,6 @@ joined_is {w = w} h =
     let a = w.row_spelled in
     let t = a.tail_spelled.pieces in
     cc (h.prefixes, h.escape, h.opcode, h.modrm, h.address, h.immediate, h.suffix, w.spelled, a.spelled, t.spelled)
-
--- what parts say of the tail after a head
-abbrev pub Tails : Head → Parts → Type 0
-Tails head parts = (r : RowRecord) (p : Prefixes) (reading : Reading) (tail : List ℕ) → head.tail.now ≡ tail → head.ask ≡ ask_of r (slice_index tail 0) → (a : SpellsRow r p tail reading) → IsTail r p tail reading a parts
-
--- The parts of a head, and those of the tail after it, are those of the encoding.
-pub has_parts : {strict : Bool} {s : List ℕ} {reading : Reading} (w : Encoding strict s reading) {head : Head} (parts : Parts) → IsHead strict s reading w head → parts.prefixes.now ≡ head.prefixes.now → parts.escape.now ≡ head.escape.now → parts.opcode.now ≡ head.opcode.now → Tails head parts → HasParts strict s reading w (lists_of parts)
-has_parts {strict = strict} {s = s} {reading = reading} w parts h prefixes escape opcode tails =
-    let tail = tails (record_in strict s reading w) (seen_by w.map w.opcode (reading_of w.run)) reading w.tail h.tail h.ask w.row_spelled in
-    assumption (prefixes ∙ h.prefixes, escape ∙ h.escape, opcode ∙ h.opcode, tail)
 
 -- ---- a whole encoding has its parts once
 

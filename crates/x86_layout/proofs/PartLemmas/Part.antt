@@ -1,8 +1,7 @@
 -- Where the parts of an encoding are.
-use Rattle.std.proofs.Common.{◌≡◌, ℕ, ◌-◌, ◌≤◌, ◌==◌, ◌&&◌, Bool, true, if◌then◌else◌, List, [], ◌∷◌, ◌++◌, length, take, drop, map, slice_index, Option, Some, None, refl, ap, arith, length-append}
+use Rattle.std.proofs.Common.{◌≡◌, ℕ, ◌≤◌, ◌==◌, ◌&&◌, Bool, true, if◌then◌else◌, List, [], ◌∷◌, ◌++◌, length, take, drop, map, slice_index, Option, Some, None, refl, ap, arith, length-append}
 use Rattle.std.specs.List.{list_all, prefix_len, take_while}
 use Rattle.std.proofs.lemmas.List.Sums.{take_while-cons}
-use Rattle.std.specs.Int.{from_bool}
 use Rattle.std.proofs.Math.Seq.{take-append_seam, drop-append_seam}
 use Rattle.std.proofs.lemmas.Bool.{and_parts}
 use Rattle.std.proofs.lemmas.Bool.Decides.{nat_tests}
@@ -19,7 +18,7 @@ use Rattle.x86_operands.specs.declared.plans.Verdict.{Verdict}
 use Rattle.x86_operands.specs.declared.plans.ModrmUse.{ModrmUse}
 use Rattle.x86_operands.specs.Plans.{RowRecord}
 use Rattle.x86_operands.specs.Asks.{immediate_width, modrm_of, immediates_width, uses_modrm, uses_suffix, used_modrm, ask_of}
-use Rattle.x86_operands.specs.Pieces.{modrm_width, suffix_width, SpellsOperands, SpellsMemory, SpellsRow}
+use Rattle.x86_operands.specs.Pieces.{modrm_width, suffix_width, SpellsOperands, SpellsRow}
 use Rattle.x86_decode.specs.Head.{is_run, escape_bytes, is_opcode}
 use Rattle.x86_operands.specs.declared.asks.Ask.{Ask}
 use Rattle.x86_operands.specs.declared.reader.Reading.{Reading}
@@ -28,10 +27,6 @@ use Rattle.x86_layout.specs.Parts.Split.{sib_width}
 use Rattle.x86_layout.specs.Parts.Permitted.{map_named}
 
 -- ---- lengths
-
--- a part that is there or not has one byte or none
-pub from_is : (flag : Bool) → from_bool flag ≡ one_if flag
-from_is flag = grind arith
 
 -- a part of one byte, or none
 pub option_short : (o : Option ℕ) → length (option_bytes o) ≤ 1
@@ -94,17 +89,11 @@ as_it_is u m e = grind (arith, nat_tests)
 pub sib_present : (u : ModrmUse) (m : ℕ) → one_if (is_memory (used_modrm u m) && rm_field m == 4) ≡ sib_width (used_modrm u m)
 sib_present u m = let h = as_it_is u m in grind arith
 
-sib_within_by : (p : Prefixes) (m : ℕ) (address : List ℕ) (memory : Option Raw) → SpellsMemory p m address memory → sib_width m ≤ length address
-sib_within_by p m address memory h = grind (arith, length-append {A = ℕ})
-
 -- ---- the counts of an ask
 
 module _ {r : RowRecord} {p : Prefixes} {tail : List ℕ} {reading : Reading} (a : SpellsRow r p tail reading) where
   abbrev m : ℕ
   m = modrm_of r.modrm a.modrm
-
-  pub sib_within : sib_width m ≤ length a.tail_spelled.pieces.address
-  sib_within = sib_within_by p m _ _ a.tail_spelled.pieces.address_spelled
 
   pub immediates_long : length a.tail_spelled.pieces.immediates ≡ immediates_width (r.plan m).encodings
   immediates_long = operands_long _ p m _ _ _ a.tail_spelled.pieces.immediates_spelled
@@ -130,6 +119,3 @@ module _ {r : RowRecord} {p : Prefixes} {tail : List ℕ} {reading : Reading} (a
       pub suffix_count : one_if ask.suffix ≡ length a.tail_spelled.pieces.suffix
       unfolding ask_of
       suffix_count = cc (k, read_as, verdict_width (r.plan m).verdict, a.tail_spelled.pieces.suffix_length)
-
-      pub address_count : (length a.tail - one_if ask.suffix) - ask.immediate ≡ length a.tail_spelled.pieces.address
-      address_count = omega (arith, length-append {A = ℕ}, ap length a.tail_spelled.pieces.spelled, immediate_count, suffix_count)

@@ -16,9 +16,10 @@ use Rattle.x86_operands.specs.Plans.{RowRecord}
 use Rattle.x86_operands.specs.Pieces.{SpellsMemory, modrm_width}
 use Rattle.x86_operands.specs.Asks.{modrm_of}
 use Rattle.x86_decode.specs.Head.{escape_bytes, seen_by}
+use Rattle.x86_decode.specs.declared.instructions.Instruction.{Instruction}
 use Rattle.x86_decode.specs.Instruction.{instruction_of}
 use Rattle.x86_groups.specs.Groups.{record_of}
-use Rattle.x86_decode.specs.Grammar.{allows_lock, IsSentence}
+use Rattle.x86_decode.specs.Grammar.{allows_lock, places_of, IsSentence}
 use Rattle.x86_decode.proofs.ByteLemmas.{Bytes, bytes_of, bytes_after, bytes_before}
 use Rattle.x86_layout.specs.Parts.Split.{Encoding, record_in}
 use Rattle.x86_layout.specs.Tightening.Registers.{is_ip_relative}
@@ -150,7 +151,10 @@ module _ {strict : Bool} {s : List ℕ} {a : Reading} (v : Encoding strict s a) 
       row_spelled = (rerow).row;
     }
 
-    sentence : allows_lock a ≡ true → length t ≤ 15 → IsSentence (rows_of packed) strict t (instruction_of (rerow).again (length t))
+    abbrev answer : Instruction
+    answer = instruction_of (rerow).again (places_of (rows_of packed) strict t (rerow).again whole) (length t)
+
+    sentence : allows_lock a ≡ true → length t ≤ 15 → IsSentence (rows_of packed) strict t answer
     sentence lock short = record { reading = (rerow).again; whole = whole; lock = (rerow).lock ∙ lock; short = short; yields = refl }
 
     relative : is_ip_relative raw ≡ false → IsRelative strict s a v t (rerow).again whole
@@ -188,4 +192,4 @@ module _ {strict : Bool} {s : List ℕ} {a : Reading} (v : Encoding strict s a) 
         let old = length_is v raw read in
         let new = long in
         let fits : length t ≤ 15 = omega (arith, short, fewer, old, new) in
-        record { answer = instruction_of (rerow).again (length t); sentence = sentence lock fits; relative = relative ip; least = least ip }
+        record { answer = answer; sentence = sentence lock fits; relative = relative ip; least = least ip }

@@ -27,8 +27,9 @@ use Rattle.x86_operands.specs.PlanSteps.{pair_at, four_of, changed, pointer_clas
 use Rattle.x86_operands.specs.Pieces.{operand_from, SpellsOperands, SpellsTail}
 use Rattle.x86_operands.specs.Asks.{first_or}
 use Rattle.x86_decode.specs.declared.instructions.Instruction.{Instruction}
+use Rattle.x86_operands.specs.declared.places.Places.{Places}
 use Rattle.x86_decode.specs.Instruction.{instruction_of, operand_at}
-use Rattle.x86_decode.specs.Grammar.{IsSentence}
+use Rattle.x86_decode.specs.Grammar.{places_of, IsSentence}
 use Rattle.x86_decode.proofs.ByteLemmas.{bytes_of}
 use Rattle.x86_layout.specs.Parts.Split.{Encoding}
 use Rattle.x86_layout.specs.Tightening.Registers.{IsByteOption}
@@ -99,8 +100,8 @@ module _ (from to : Raw) where
   at_place below xs ys k h = grind (arith, unchanged, h.each 0, h.each 1, h.each 2, h.each 3)
 
   module _ (address : IsSameAddress (raw_form to) (raw_form from)) (p q : Prefixes) (alike : cleared q ≡ cleared p) where
-    built : (plan : Plan) (opcode k l : ℕ) (xs ys : List (Slot × Operand)) → AlikePairs xs ys → IsSameButInMemory from to (instruction_of (reading_from plan p opcode (four_of xs)) k) (instruction_of (reading_from plan q opcode (four_of ys)) l)
-    built plan opcode k l xs ys h = record {
+    built : (plan : Plan) (opcode : ℕ) (x y : Places) (k l : ℕ) (xs ys : List (Slot × Operand)) → AlikePairs xs ys → IsSameButInMemory from to (instruction_of (reading_from plan p opcode (four_of xs)) x k) (instruction_of (reading_from plan q opcode (four_of ys)) y l)
+    built plan opcode x y k l xs ys h = record {
       opcode = refl;
       prefixes = same_mark p q alike plan.change;
       count = h.count;
@@ -110,15 +111,15 @@ module _ (from to : Raw) where
     }
 
     module _ (m n : ℕ) (register : reg_field n ≡ reg_field m) where
-      tails : {plan other : Plan} {tail end : List ℕ} {a b : Reading} (h : SpellsTail plan p m tail a) (g : SpellsTail other q n end b) (k l : ℕ) → other ≡ plan → list_all rm_free_encoding (list_of plan.encodings) ≡ true → h.pieces.memory ≡ Some from → g.pieces.memory ≡ Some to → g.pieces.immediates ≡ h.pieces.immediates → g.pieces.suffix ≡ h.pieces.suffix → IsSameButInMemory from to (instruction_of a k) (instruction_of b l)
-      tails {plan = plan} {b = b} h g k l planned free old new immediates suffix =
+      tails : {plan other : Plan} {tail end : List ℕ} {a b : Reading} (h : SpellsTail plan p m tail a) (g : SpellsTail other q n end b) (i j : Places) (k l : ℕ) → other ≡ plan → list_all rm_free_encoding (list_of plan.encodings) ≡ true → h.pieces.memory ≡ Some from → g.pieces.memory ≡ Some to → g.pieces.immediates ≡ h.pieces.immediates → g.pieces.suffix ≡ h.pieces.suffix → IsSameButInMemory from to (instruction_of a i k) (instruction_of b j l)
+      tails {plan = plan} {b = b} h g i j k l planned free old new immediates suffix =
           let x = h.pieces in
           let y = g.pieces in
           let spelled = rw old at x.immediates_spelled in
           let third = rw (planned, new, immediates) at y.immediates_spelled in
           let pairs = pairs_alike p q m n alike register (list_of plan.encodings) x.immediates x.operand_pairs y.operand_pairs free spelled third in
           let yields : b ≡ reading_from plan q h.opcode (four_of y.operand_pairs) = cc (g.yields, planned, g.named, suffix, h.named) in
-          rw (h.yields, yields) (built plan h.opcode k l x.operand_pairs y.operand_pairs pairs)
+          rw (h.yields, yields) (built plan h.opcode i j k l x.operand_pairs y.operand_pairs pairs)
 
 -- ---- the encodings
 
@@ -143,12 +144,12 @@ module _ {strict : Bool} {s : List ℕ} {a : Reading} {v : Encoding strict s a} 
       let old = (same_record strict v.row (Seen v) false false (Byte v) (Byte w) mm nm register_is).2 (fields v rel.address.old) in
       cc (new, row_is, seen_is, old)
 
-  same_instruction : (k l : ℕ) → IsSameButInMemory rel.address.from rel.address.to (instruction_of a k) (instruction_of b l)
-  same_instruction k l = tails rel.address.from rel.address.to rel.address.same (Seen v) (Seen w) seen_is (Byte v) (Byte w) register_is v.row_spelled.tail_spelled w.row_spelled.tail_spelled k l plan_is (row_is_free strict v.row (Seen v) (Byte v) (spells v rel.address.old).0 (fields v rel.address.old)) rel.address.old rel.address.new rel.parts.immediate rel.parts.suffix
+  same_instruction : (i j : Places) (k l : ℕ) → IsSameButInMemory rel.address.from rel.address.to (instruction_of a i k) (instruction_of b j l)
+  same_instruction i j k l = tails rel.address.from rel.address.to rel.address.same (Seen v) (Seen w) seen_is (Byte v) (Byte w) register_is v.row_spelled.tail_spelled w.row_spelled.tail_spelled i j k l plan_is (row_is_free strict v.row (Seen v) (Byte v) (spells v rel.address.old).0 (fields v rel.address.old)) rel.address.old rel.address.new rel.parts.immediate rel.parts.suffix
 
 -- said of sentences
 pub relative_is_same : (strict : Bool) (s : List ℕ) (a : Instruction) (is : IsSentence (rows_of packed) strict s a) (t : List ℕ) (b : Instruction) (other : IsSentence (rows_of packed) strict t b) (rel : IsRelative strict s is.reading is.whole t other.reading other.whole) → IsSameButInMemory rel.address.from rel.address.to a b
-relative_is_same strict s a is t b other rel = rw (is.yields, other.yields) (same_instruction rel (length s) (length t))
+relative_is_same strict s a is t b other rel = rw (is.yields, other.yields) (same_instruction rel (places_of (rows_of packed) strict s is.reading is.whole) (places_of (rows_of packed) strict t other.reading other.whole) (length s) (length t))
 
 -- ---- addresses, by the laws on shapes and on forms
 

@@ -18,19 +18,25 @@ use Rattle.x86_fields.specs.Run.{reading_of}
 use Rattle.x86_fields.specs.Pieces.{option_bytes}
 use Rattle.x86_operands.specs.declared.reader.Reading.{Reading}
 use Rattle.x86_operands.specs.Asks.{ask_of}
-use Rattle.x86_layout.specs.declared.parts.heads.Head.{Head}
 use Rattle.x86_fields.specs.declared.parts.Parts.{Parts}
 use Rattle.x86_fields.specs.Parts.{PartLists, lists_of}
-use Rattle.x86_layout.specs.Parts.Heads.{one_if, IsHead}
+use Rattle.x86_layout.specs.Parts.Heads.{one_if}
 use Rattle.x86_layout.specs.Parts.Split.{Encoding, HasParts}
 use Rattle.x86_layout.specs.Tightening.Registers.{is_ip_relative}
 use Rattle.x86_layout.specs.Tightening.Shortest.{shortest, IsOfBytes, address_length}
-use Rattle.x86_layout.specs.Tightening.Tighten.{HasMemoryOperand, HasOperandForm, raw_of, respelled, respelled_length}
+use Rattle.x86_layout.specs.Tightening.Tighten.{has_memory_form, HasMemoryOperand, HasOperandForm, raw_of, respelled, respelled_length}
 use Rattle.x86_layout.proofs.PartLemmas.Part.{halves, read_as}
 use Rattle.x86_layout.proofs.PartLemmas.OfBytes.{option_count, first_of, IsFirstSentence, has_head, parts_are}
+use Rattle.x86_operands.specs.declared.plans.ModrmUse.{ModrmUse}
+use Rattle.x86_operands.specs.declared.plans.ModrmUse.TheVariants.{Absent, EitherForm, Registers}
+use Rattle.x86_operands.specs.Asks.{modrm_of}
+use Rattle.x86_operands.specs.Pieces.{modrm_width}
+use Rattle.x86_operands.specs.declared.plans.PrefixChange.{PrefixChange}
+use Rattle.x86_operands.specs.PlanSteps.{changed}
+use Rattle.x86_layout.proofs.TightenLemmas.RegisterForm.{no_memory_slot}
 use Rattle.x86_layout.proofs.TightenLemmas.Rex.{seen_rex, seen_67}
 use Rattle.x86_layout.proofs.TightenLemmas.PlanAlike.{row_writes}
-use Rattle.x86_layout.proofs.TightenLemmas.Relative.{Seen, Reads, Byte, Address, spells, fields, byte, length_is, no_longer, Bytes', long}
+use Rattle.x86_layout.proofs.TightenLemmas.Relative.{Row, Seen, Reads, Byte, Address, spells, fields, byte, length_is, no_longer, Bytes', long}
 use Rattle.x86_layout.specs.Parts.OfBytes.{ask_in, parts_of}
 use Rattle.x86_decode.specs.declared.instructions.Instruction.{Instruction}
 use Rattle.x86_layout.specs.Tightening.Least.{least_by, least_length, shortest_length}
@@ -38,16 +44,22 @@ use Rattle.x86_layout.specs.Tightening.Least.{least_by, least_length, shortest_l
 -- ---- raw fields
 
 module _ {strict : Bool} {s : List ℕ} {a : Reading} (v : Encoding strict s a) where
-  -- whether the row has a memory form
-  pub memory_in_head : {head : Head} → IsHead strict s a v head → is_memory (Byte v) ≡ head.ask.memory
-  unfolding ask_of
-  memory_in_head h = cc (h.ask, read_as v.row_spelled v.row_spelled.tail v.row_spelled.spelled)
-
   some_by : (p : Prefixes) (m : ℕ) (address : List ℕ) (memory : Option Raw) → SpellsMemory p m address memory → is_memory m ≡ true → (raw : Raw) × (memory ≡ Some raw)
   some_by p m address memory h e = grind arith
 
   pub some_memory : is_memory (Byte v) ≡ true → (raw : Raw) × (Reads v raw)
   some_memory e = some_by (Seen v) (Byte v) (Address v) v.row_spelled.tail_spelled.pieces.memory v.row_spelled.tail_spelled.pieces.address_spelled e
+
+  -- ModRM is there, and its mod is that of memory
+  form_is : is_memory (Byte v) ≡ true → has_memory_form v.row_spelled.modrm ≡ true
+  form_is e = rw (byte v (some_memory e).1) e
+
+  pub no_form : has_memory_form v.row_spelled.modrm ≡ false → is_memory (Byte v) ≡ false
+  no_form h = by (is_memory (Byte v)) refl
+    where
+      by : (t : Bool) → is_memory (Byte v) ≡ t → t ≡ false
+      by false e = refl
+      by true e = absurd (cc (form_is e, h))
 
   -- it is written as an operand
   pub operand_form : (raw : Raw) → Reads v raw → (ip : Bool) → is_ip_relative raw ≡ ip → HasOperandForm strict s a v ip
@@ -114,6 +126,34 @@ module _ {strict : Bool} {s : List ℕ} {a : Instruction} (is : IsSentence (rows
           let slot = slots some.0 at.0 some.1 at.1.1 in
           let below : at.0 < 4 = let l = at.1.0 in let f = few (plan_within (rows_of packed) strict s is.reading is.whole).encodings in omega (arith, l, f) in
           cc (slot, is_shape some.0, none at.0 below)
+
+-- ---- a memory form by its byte
+
+-- a byte of ModRM is used as it is where mod is looked at
+form_by : (u : ModrmUse) (modrm : List ℕ) → length modrm ≡ modrm_width u → has_memory_form modrm ≡ true → (u ≡ Registers → ⊥) → is_memory (modrm_of u modrm) ≡ true
+form_by Absent [] e h other = h
+form_by EitherForm (m ∷ []) e h other = h
+form_by Registers modrm e h other = absurd (other refl)
+form_by u modrm e h other = absurd (omega arith)
+
+module _ {strict : Bool} {s : List ℕ} {a : Instruction} (is : IsSentence (rows_of packed) strict s a) where
+  pub with_memory : (k : ℕ) × (is_memory_slot (slot_at a k) ≡ true) → has_memory_form is.whole.row_spelled.modrm ≡ true → is_memory (Byte is.whole) ≡ true
+  with_memory some h = form_by (Row is.whole).modrm is.whole.row_spelled.modrm is.whole.row_spelled.modrm_length h (λ usage. let none = no_memory_slot is usage some.0 in let memory = some.1 in cc (none, memory))
+
+-- ---- the prefixes of an instruction have the REX and the 67 of its run
+
+changed_rex : (c : PrefixChange) (p : Prefixes) → (changed c p).rex ≡ p.rex
+changed_rex c p = grind arith
+
+changed_67 : (c : PrefixChange) (p : Prefixes) → (changed c p).address_size ≡ p.address_size
+changed_67 c p = grind arith
+
+module _ {strict : Bool} {s : List ℕ} {a : Instruction} (is : IsSentence (rows_of packed) strict s a) where
+  pub answer_rex : a.prefixes.rex ≡ (reading_of is.whole.run).rex
+  answer_rex = ap (λ i. i.prefixes.rex) is.yields ∙ ap (λ r. r.prefixes.rex) is.whole.row_spelled.tail_spelled.yields ∙ changed_rex _ (Seen is.whole) ∙ seen_rex is.whole.map is.whole.opcode (reading_of is.whole.run)
+
+  pub answer_67 : a.prefixes.address_size ≡ (reading_of is.whole.run).address_size
+  answer_67 = ap (λ i. i.prefixes.address_size) is.yields ∙ ap (λ r. r.prefixes.address_size) is.whole.row_spelled.tail_spelled.yields ∙ changed_67 _ (Seen is.whole) ∙ seen_67 is.whole.map is.whole.opcode (reading_of is.whole.run)
 
 -- ---- the length of a shortest relative
 

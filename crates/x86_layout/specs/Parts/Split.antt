@@ -6,13 +6,14 @@ use Rattle.x86_fields.specs.ModRM.{rm_field, is_memory}
 use Rattle.x86_fields.specs.declared.parts.Parts.{Parts}
 use Rattle.x86_fields.specs.Parts.{PartLists, lists_of}
 use Rattle.x86_operands.specs.declared.reader.Reading.{Reading}
+use Rattle.x86_operands.specs.declared.places.Places.{Places}
 use Rattle.x86_operands.specs.Plans.{RowRecord}
 use Rattle.x86_operands.specs.Asks.{modrm_of}
 use Rattle.x86_decode.specs.declared.instructions.Instruction.{Instruction}
 use Rattle.x86_decode.specs.Instruction.{length_of}
 use Rattle.x86_decode.specs.Head.{escape_bytes, seen_by}
 use Rattle.x86_groups.specs.Groups.{record_of}
-use Rattle.x86_decode.specs.Grammar.{Whole, IsSentence}
+use Rattle.x86_decode.specs.Grammar.{Whole, places_of, IsSentence}
 use Rattle.x86_decode.specs.Answer.{answer_of}
 
 -- whole encodings by the printed rows
@@ -39,6 +40,13 @@ module _ (strict : Bool) (s : List ℕ) (reading : Reading) (w : Encoding strict
     pub immediate : parts.immediate ≡ w.row_spelled.tail_spelled.pieces.immediates
     pub suffix : parts.suffix ≡ w.row_spelled.tail_spelled.pieces.suffix
 
+-- These are the places of a whole encoding.
+pub record ArePlaces (s : List ℕ) (places : Places) : Type 0 where
+  pub strict : Bool
+  pub reading : Reading
+  pub whole : Encoding strict s reading
+  pub are : places ≡ places_of (rows_of packed) strict s reading whole
+
 -- the parts in order
 abbrev pub joined : PartLists → List ℕ
 joined p = p.prefixes ++ (p.escape ++ (p.opcode ++ (p.modrm ++ ((p.sib ++ p.displacement) ++ (p.immediate ++ p.suffix)))))
@@ -56,8 +64,7 @@ pub record IsSplit (strict : Bool) (bytes : List ℕ) (split : Parts) : Type 0 w
   pub parts : HasParts strict encoding reading whole (lists_of split)
   pub together : joined (lists_of split) ≡ encoding
 
--- The bytes are a sentence under some choice.
-pub record IsSentenceOfSomeChoice (s : List ℕ) : Type 0 where
+-- The bytes are a sentence under some choice, and this is its answer.
+pub record IsSentenceOf (s : List ℕ) (answer : Instruction) : Type 0 where
   pub strict : Bool
-  pub answer : Instruction
   pub is : IsSentence (rows_of packed) strict s answer

@@ -5,7 +5,7 @@ use Rattle.std.specs.Int.{w32, cast_unsigned, to_le_bytes}
 use Rattle.x86_fields.specs.declared.rex.PrefixRex.{PrefixRex}
 use Rattle.x86_fields.specs.declared.raw.Raw.{Raw}
 use Rattle.x86_fields.specs.Run.{is_rex, reading_of}
-use Rattle.x86_fields.specs.ModRM.{reg_field}
+use Rattle.x86_fields.specs.ModRM.{reg_field, is_memory}
 use Rattle.x86_fields.specs.Raw.{displacement_width, has_b, has_x}
 use Rattle.x86_fields.specs.Pieces.{option_bytes, first_byte, signed_by}
 use Rattle.x86_fields.specs.Linear.{raw_form, IsSameAddress}
@@ -71,6 +71,11 @@ respelled p raw = run_with raw.rex_x raw.rex_b p.prefixes.now ++ (p.escape.now +
 -- how many bytes that are
 abbrev pub respelled_length : Parts → Raw → ℕ
 respelled_length p raw = length p.prefixes.now + length p.escape.now + length p.opcode.now + 1 + address_length raw + length p.immediate.now + length p.suffix.now
+
+-- a ModRM byte is there, and its mod is that of memory
+abbrev pub has_memory_form : List ℕ → Bool
+has_memory_form (m ∷ []) = is_memory m
+has_memory_form modrm = false
 
 -- ---- relatives
 

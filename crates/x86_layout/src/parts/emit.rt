@@ -7,13 +7,13 @@ ghost use Rattle.x86_forms.specs.Words.{IsForm};
 ghost use Rattle.x86_operands.specs.Plans.{is_refusal};
 ghost use Rattle.x86_decode.specs.Decoder.{is_strict};
 ghost use Rattle.x86_decode.specs.Head.{is_run};
+ghost use Rattle.x86_layout.specs.Parts.Heads.{has_sib};
 ghost use Rattle.x86_layout.specs.Parts.Split.{joined};
 ghost use Rattle.x86_layout.specs.Parts.Fields.{lists_in};
 ghost use Rattle.x86_layout.specs.Parts.Permitted.{lacks_modrm, refuses_suffix, passes_record, displacement_length, has_row_parts, tail_of, has_lawful_lock, is_short, failing_at, first_failing, IsPermitted};
 
 use crate::parts::entries::{Entry, entry_of};
 use crate::parts::fields::Fields;
-use crate::parts::split::has_sib;
 use arrayvec::ArrayVec;
 use thiserror::Error;
 use x86_arch::U8Reader;
@@ -22,7 +22,7 @@ use x86_decode::builders::{allows_lock, is_prefix, read_row};
 use x86_fields::{ModRM, displacement_width};
 use x86_groups::row_at;
 use x86_operands::plans::Verdict;
-use x86_operands::{RecordAt, plan_ask, suffix_opcode};
+use x86_operands::{Ask, RecordAt, plan_ask, suffix_opcode};
 
 /// Why fields aren't written: the first condition that fails, in this order.
 #[derive(Clone, Copy, PartialEq, Eq, Debug, Drop, Error)]
@@ -93,6 +93,13 @@ fn displacement_length(modrm: ModRM, sib: Option<u8>) -> u8
     } else {
         0
     }
+}
+
+/// Whether there is a SIB at a ModRM byte.
+fn has_sib(ask: &Ask, modrm: ModRM) -> bool
+    ensures { result ≡ has_sib ask.now modrm }
+{
+    ask.memory && modrm.rm_field() == 4
 }
 
 /// Whether each part that a record has is there with its length, and no other part is.

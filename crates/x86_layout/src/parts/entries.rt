@@ -1,12 +1,12 @@
 //! The row that fields name.
 
-ghost use Rattle.std.specs.Prelude.{◌≡◌, Some, IfSome, IsTrue};
+ghost use Rattle.std.specs.Prelude.{◌≡◌, Some, IfSome, IsTrue, length, slice_index};
 ghost use Rattle.x86_forms.specs.Words.{IsForm};
-ghost use Rattle.x86_decode.specs.Head.{is_run, is_opcode};
+ghost use Rattle.x86_decode.specs.Head.{escape_bytes, is_run, is_opcode};
+ghost use Rattle.x86_layout.specs.Parts.Heads.{map_of};
 ghost use Rattle.x86_layout.specs.Parts.Permitted.{map_named, entry_at, entry_of};
 
 use crate::parts::fields::Fields;
-use crate::parts::heads::{escape_length, map_of};
 use x86_decode::builders::{column_of, is_prefix, is_vex, seen_by};
 use x86_fields::{Prefixes, reading_of};
 use x86_forms::{Map, TableRow, packed, unpack};
@@ -16,6 +16,29 @@ use x86_forms::{Map, TableRow, packed, unpack};
 pub struct Entry {
     pub row: TableRow,
     pub prefixes: Prefixes,
+}
+
+/// The map by the first two bytes after the run.
+fn map_of(rest: &[u8]) -> Map
+    ensures { result ≡ map_of (slice_index rest.now 0) (slice_index rest.now 1) }
+{
+    match rest {
+        [0x0f, 0x38, ..] => Map::Of38,
+        [0x0f, 0x3a, ..] => Map::Of3a,
+        [0x0f, ..] => Map::Of,
+        _ => Map::One,
+    }
+}
+
+/// How many bytes the escape of a map has.
+fn escape_length(map: Map) -> usize
+    ensures { result ≡ length (escape_bytes map) }
+{
+    match map {
+        Map::One => 0,
+        Map::Of => 1,
+        Map::Of38 | Map::Of3a => 2,
+    }
 }
 
 /// The map of an escape, where it is one of the four.

@@ -5,7 +5,7 @@ ghost use Rattle.x86_fields.specs.Pieces.{option_bytes};
 ghost use Rattle.x86_fields.specs.Parts.{lists_of, HasFieldLengths};
 ghost use Rattle.x86_layout.specs.Parts.Fields.{lists_in};
 
-use crate::parts::heads::byte_at;
+use crate::parts::bytes::byte_at;
 use arrayvec::ArrayVec;
 use x86_fields::Parts;
 

@@ -1,54 +1,74 @@
 //! The parts of an encoding.
 
-ghost use Rattle.std.specs.Prelude.{◌≡◌, ℕ, List, slice_index, MatchResult, IfOk, Ok, Err};
+ghost use Rattle.std.specs.Prelude.{◌≡◌, ◌≤◌, ◌++◌, true, Bool, List, ℕ, MatchResult, IfOk, Ok, Err, length};
 ghost use Rattle.x86_fields.specs.declared.prefixes.Prefixes.{Prefixes};
 ghost use Rattle.x86_fields.specs.Parts.{lists_of, HasFieldLengths};
-ghost use Rattle.x86_operands.specs.declared.reader.Reading.{Reading};
+ghost use Rattle.x86_forms.specs.declared.Map.{Map};
+ghost use Rattle.x86_forms.specs.Words.{rows_of, packed};
+ghost use Rattle.x86_operands.specs.Asks.{modrm_of};
 ghost use Rattle.x86_operands.specs.Plans.{RowRecord};
 ghost use Rattle.x86_operands.specs.Pieces.{SpellsRow};
-ghost use Rattle.x86_operands.specs.Asks.{ask_of};
+ghost use Rattle.x86_operands.specs.declared.reader.Reading.{Reading};
 ghost use Rattle.x86_decode.specs.Decoder.{is_strict};
 ghost use Rattle.x86_decode.specs.Answer.{answer_of};
-ghost use Rattle.x86_layout.specs.Parts.Heads.{has_sib, IsSomeHead, IsTail};
-ghost use Rattle.x86_layout.specs.Parts.Split.{IsSplit};
+ghost use Rattle.x86_decode.specs.Grammar.{places_of};
+ghost use Rattle.x86_decode.specs.Head.{is_run, escape_bytes};
+ghost use Rattle.x86_layout.specs.Parts.Split.{Encoding, HasParts, ArePlaces, IsSplit, sib_width};
 ghost use Rattle.x86_layout.specs.Parts.OfBytes.{parts_of};
 
-use crate::parts::heads::{Head, byte_at, head_of, split_at_most};
-use x86_decode::{InstDecoder, Instruction, laws};
+use crate::parts::bytes::{byte_at, split_at_most};
+use x86_decode::{InstDecoder, Instruction, Places, laws};
 use x86_fields::{DecodeError, ModRM, Parts};
-use x86_operands::Ask;
 
-/// Whether there is a SIB at a ModRM byte.
+/// How many bytes the escape has with which these bytes end: they are a run of prefixes and an escape.
 #[inline(always)]
-pub fn has_sib(ask: &Ask, modrm: ModRM) -> bool
-    ensures { result ≡ has_sib ask.now modrm }
+fn escape_at_end(before: &[u8]) -> usize
+    ensures within { result ≤ length before.now }
+    ensures escape { (run : List ℕ) (map : Map) → is_run run ≡ true →
+        before.now ≡ run ++ escape_bytes map → result ≡ length (escape_bytes map) }
 {
-    ask.memory && modrm.rm_field() == 4
+    match before {
+        [.., 0x0f] => 1,
+        [.., 0x0f, 0x38 | 0x3a] => 2,
+        _ => 0,
+    }
 }
 
-/// The parts of an encoding that has this head.
+/// ModRM, SIB and displacement, of which the first is there where any is.
 #[inline(always)]
-pub fn parts_after<'a>(head: &Head<'a>) -> Parts<'a>
-    requires { IsSomeHead head.now }
-    ensures prefixes { result.prefixes.now ≡ head.now.prefixes.now }
-    ensures escape { result.escape.now ≡ head.now.escape.now }
-    ensures opcode { result.opcode.now ≡ head.now.opcode.now }
-    ensures tail { (r : RowRecord) (p : Prefixes) (reading : Reading) (tail : List ℕ) →
-        head.now.tail.now ≡ tail → head.now.ask ≡ ask_of r (slice_index tail 0) →
-        (a : SpellsRow r p tail reading) → IsTail r p tail reading a result }
+fn split_address(fields: &[u8]) -> (&[u8], &[u8], &[u8])
+    ensures { (r : RowRecord) (p : Prefixes) (tail : List ℕ) (reading : Reading)
+        (a : SpellsRow r p tail reading) →
+        fields.now ≡ a.modrm ++ a.tail_spelled.pieces.address →
+        (result.0.now ≡ a.modrm)
+        × (length result.1.now ≡ sib_width (modrm_of r.modrm a.modrm))
+        × (result.1.now ++ result.2.now ≡ a.tail_spelled.pieces.address) }
 {
-    let ask = head.ask;
-    let immediate_length = usize::from(ask.immediate);
-    let sib_length = usize::from(has_sib(&ask, ModRM::new(byte_at(head.tail, 0))));
-    let (modrm, rest) = head.tail.split_at(usize::from(ask.modrm));
-    let before_suffix = rest.len() - usize::from(ask.suffix);
-    let (address, rest) = rest.split_at(before_suffix - immediate_length);
-    let (sib, displacement) = address.split_at(sib_length);
-    let (immediate, suffix) = rest.split_at(immediate_length);
+    let (modrm, address) = fields.split_at(usize::from(!fields.is_empty()));
+    let has_sib = !address.is_empty() && ModRM::new(byte_at(modrm, 0)).rm_field() == 4;
+    let (sib, displacement) = address.split_at(usize::from(has_sib));
+    (modrm, sib, displacement)
+}
+
+/// The parts of an encoding, by the places of their ends.
+#[inline(always)]
+pub fn parts_at<'a>(encoding: &'a [u8], places: Places) -> Parts<'a>
+    requires { ArePlaces encoding.now places }
+    ensures { (strict : Bool) (reading : Reading) (w : Encoding strict encoding.now reading) →
+        places ≡ places_of (rows_of packed) strict encoding.now reading w →
+        HasParts strict encoding.now reading w (lists_of result) }
+{
+    let opcode_end = usize::from(places.opcode_end);
+    let (head, tail) = encoding.split_at(opcode_end);
+    let (before, opcode) = head.split_at(opcode_end - 1);
+    let (prefixes, escape) = before.split_at(before.len() - escape_at_end(before));
+    let (fields, last) = tail.split_at(usize::from(places.address_end) - opcode_end);
+    let (modrm, sib, displacement) = split_address(fields);
+    let (immediate, suffix) = last.split_at(last.len() - usize::from(places.has_suffix));
     Parts {
-        prefixes: head.prefixes,
-        escape: head.escape,
-        opcode: head.opcode,
+        prefixes,
+        escape,
+        opcode,
         modrm,
         sib,
         displacement,
@@ -75,7 +95,7 @@ pub fn split_decoded<'a>(
     laws::lengths();
     laws::answer_is();
     let (encoding, _) = split_at_most(bytes, instruction.len().to_const() as usize);
-    parts_after(&head_of(encoding))
+    parts_at(encoding, instruction.places())
 }
 
 /// The parts of the accepted encoding at the beginning of the bytes, in order; their concatenation is that encoding.

@@ -1,18 +1,18 @@
 //! Encodings with other raw fields.
 
-ghost use Rattle.std.specs.Prelude.{◌≡◌, true, ◌+◌, ◌≤◌, ◌++◌, [], ◌∷◌, length};
-ghost use Rattle.std.specs.List.{list_all};
-ghost use Rattle.x86_fields.specs.Run.{is_prefix};
+ghost use Rattle.std.specs.Prelude.{◌≡◌, ◌+◌, ◌≤◌, ◌++◌, [], ◌∷◌, length};
+ghost use Rattle.x86_fields.specs.Prefixes.{address_size, rex};
+ghost use Rattle.x86_fields.specs.Run.{reading_of};
 ghost use Rattle.arrayvec.specs.ArrayVec.{array_vec_len};
 ghost use Rattle.x86_fields.specs.Raw.{displacement_width};
 ghost use Rattle.x86_fields.specs.Pieces.{signed_by};
 ghost use Rattle.x86_layout.specs.Tightening.Shortest.{address_length};
 ghost use Rattle.x86_layout.specs.Tightening.Tighten.{byte_with, run_with, raw_in, spelled_displacement, respelled, respelled_length};
 
+use crate::parts::bytes::byte_at;
 use crate::parts::emit::{push, push_byte};
-use crate::parts::heads::byte_at;
 use arrayvec::ArrayVec;
-use x86_fields::{Parts, Raw, displacement_width, is_rex, reading_of};
+use x86_fields::{Parts, Prefixes, Raw, displacement_width, is_rex};
 
 /// The number of a displacement of one or four bytes, and 0 where there is none.
 fn signed(displacement: &[u8]) -> i32
@@ -25,12 +25,12 @@ fn signed(displacement: &[u8]) -> i32
     }
 }
 
-/// The raw fields of parts that have a ModRM of the memory form.
-pub fn raw_in(parts: &Parts) -> Raw
-    requires { list_all is_prefix parts.now.prefixes.now ≡ true }
+/// The raw fields of parts that have a ModRM of the memory form. `prefixes` are those of their instruction.
+pub fn raw_in(parts: &Parts, prefixes: &Prefixes) -> Raw
+    requires rex { rex prefixes.now ≡ rex (reading_of parts.now.prefixes.now) }
+    requires size { address_size prefixes.now ≡ address_size (reading_of parts.now.prefixes.now) }
     ensures { result ≡ raw_in parts.now }
 {
-    let prefixes = reading_of(parts.prefixes);
     Raw {
         rex_b: prefixes.has_b(),
         rex_x: prefixes.has_x(),

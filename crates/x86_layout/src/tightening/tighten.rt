@@ -1,26 +1,26 @@
 //! The shortest encoding of an address. Source: Intel SDM volume 2, sections 2.1.5 and 2.2.1.
 
-ghost use Rattle.std.specs.Prelude.{◌≡◌, ◌≤◌, ◌<◌, ℕ, Bool, false, length, MatchResult, IfErr, Ok};
+ghost use Rattle.std.specs.Prelude.{◌≡◌, ◌≤◌, ◌<◌, ℕ, Bool, false, true, length, MatchResult, IfErr, Ok};
 ghost use Rattle.x86_forms.specs.Words.{rows_of, packed};
 ghost use Rattle.x86_operands.specs.Operands.{is_memory_slot};
 ghost use Rattle.x86_decode.specs.Decoder.{is_strict};
 ghost use Rattle.x86_decode.specs.declared.instructions.Instruction.{Instruction};
 ghost use Rattle.x86_decode.specs.Grammar.{IsSentence};
 ghost use Rattle.x86_decode.specs.Instruction.{slot_at};
-ghost use Rattle.x86_layout.specs.Parts.Split.{IsSentenceOfSomeChoice};
+ghost use Rattle.x86_layout.specs.Parts.Split.{IsSentenceOf};
 ghost use Rattle.x86_layout.specs.Tightening.Least.{least_length, shortest_length, HasShortestLength};
 ghost use Rattle.x86_decode.specs.Answer.{answer_of};
-ghost use Rattle.x86_layout.specs.Tightening.Tighten.{IsTightened, IsAddressed, HasNoRelative, OfFirstSentence, IsNotTightened};
+ghost use Rattle.x86_layout.specs.Tightening.Tighten.{has_memory_form, IsTightened, IsAddressed, HasNoRelative, OfFirstSentence, IsNotTightened};
 
-use crate::parts::heads::{head_of, split_at_most};
-use crate::parts::split::parts_after;
+use crate::parts::bytes::split_at_most;
+use crate::parts::split::parts_at;
 use crate::tightening::registers::is_ip_relative;
 use crate::tightening::respell::{address_length, raw_in, respelled};
 use crate::tightening::shortest::shortest;
 use arrayvec::ArrayVec;
 use thiserror::Error;
 use x86_decode::{InstDecoder, Instruction, laws};
-use x86_fields::{DecodeError, Parts, Raw};
+use x86_fields::{DecodeError, ModRM, Parts, Raw};
 
 /// Why `tighten` has no shorter encoding to seek.
 #[derive(Debug, Drop, Error)]
@@ -45,22 +45,28 @@ struct Addressed<'a> {
 
 /// What an encoding has that may have a shorter relative; else why there is none to seek.
 #[inline(always)]
-fn addressed_in(encoding: &[u8]) -> Result<Addressed<'_>, TightenError>
-    requires { IsSentenceOfSomeChoice encoding.now }
-    ensures raw { (strict : Bool) (a : Instruction)
-        (is : IsSentence (rows_of packed) strict encoding.now a) →
+fn addressed_in<'a>(
+    instruction: &Instruction,
+    encoding: &'a [u8],
+) -> Result<Addressed<'a>, TightenError>
+    requires { IsSentenceOf encoding.now instruction.now }
+    ensures raw { (strict : Bool)
+        (is : IsSentence (rows_of packed) strict encoding.now instruction.now) →
         MatchResult result (λ found. IsAddressed strict encoding.now is.reading is.whole found)
         (λ error. HasNoRelative strict encoding.now is.reading is.whole error) }
-    ensures least { (strict : Bool) (a : Instruction) →
-        IsSentence (rows_of packed) strict encoding.now a →
+    ensures least { (strict : Bool) →
+        IsSentence (rows_of packed) strict encoding.now instruction.now →
         IfErr result (λ _. least_length strict encoding.now ≡ length encoding.now) }
 {
-    let head = head_of(encoding);
-    if !head.ask.memory {
+    laws::memory_operands_denote_their_raw_fields();
+    if !names_memory(instruction) {
         return Err(TightenError::NoMemoryForm);
     }
-    let parts = parts_after(&head);
-    let raw = raw_in(&parts);
+    let parts = parts_at(encoding, instruction.places());
+    if !has_memory_form(parts.modrm) {
+        return Err(TightenError::NoMemoryForm);
+    }
+    let raw = raw_in(&parts, &instruction.prefixes);
     if is_ip_relative(&raw) {
         return Err(TightenError::IpRelative);
     }
@@ -68,31 +74,42 @@ fn addressed_in(encoding: &[u8]) -> Result<Addressed<'_>, TightenError>
 }
 
 /// The shortest relative of an encoding.
-fn tightened(encoding: &[u8]) -> Result<ArrayVec<u8, 15>, TightenError>
-    requires { IsSentenceOfSomeChoice encoding.now }
-    ensures shortest { (strict : Bool) (a : Instruction)
-        (is : IsSentence (rows_of packed) strict encoding.now a) →
+fn tightened(instruction: &Instruction, encoding: &[u8]) -> Result<ArrayVec<u8, 15>, TightenError>
+    requires { IsSentenceOf encoding.now instruction.now }
+    ensures shortest { (strict : Bool)
+        (is : IsSentence (rows_of packed) strict encoding.now instruction.now) →
         MatchResult result (λ t. IsTightened strict encoding.now is.reading is.whole t.items)
         (λ error. HasNoRelative strict encoding.now is.reading is.whole error) }
-    ensures least { (strict : Bool) (a : Instruction) →
-        IsSentence (rows_of packed) strict encoding.now a →
+    ensures least { (strict : Bool) →
+        IsSentence (rows_of packed) strict encoding.now instruction.now →
         MatchResult result (λ t. length t.items ≡ least_length strict encoding.now)
         (λ _. least_length strict encoding.now ≡ length encoding.now) }
 {
-    match addressed_in(encoding) {
+    match addressed_in(instruction, encoding) {
         Ok(found) => Ok(respelled(&found.parts, &shortest(&found.raw))),
         Err(error) => Err(error),
     }
 }
 
+/// Whether a ModRM byte is there, and its mod is that of memory.
+#[inline(always)]
+fn has_memory_form(modrm: &[u8]) -> bool
+    ensures { result ≡ has_memory_form modrm.now }
+{
+    match modrm {
+        [byte] => ModRM::new(*byte).is_memory(),
+        _ => false,
+    }
+}
+
 /// How many bytes a shortest relative has, and the encoding itself where it has none to seek.
-fn least_length(encoding: &[u8]) -> usize
-    requires { IsSentenceOfSomeChoice encoding.now }
-    ensures { (strict : Bool) (a : Instruction) →
-        IsSentence (rows_of packed) strict encoding.now a →
+fn least_length(instruction: &Instruction, encoding: &[u8]) -> usize
+    requires { IsSentenceOf encoding.now instruction.now }
+    ensures { (strict : Bool) →
+        IsSentence (rows_of packed) strict encoding.now instruction.now →
         result ≡ least_length strict encoding.now }
 {
-    match addressed_in(encoding) {
+    match addressed_in(instruction, encoding) {
         Ok(found) => {
             encoding.len() - address_length(&found.raw) + address_length(&shortest(&found.raw))
         }
@@ -103,8 +120,10 @@ fn least_length(encoding: &[u8]) -> usize
 /// Whether an operand is in memory.
 #[inline(always)]
 fn names_memory(instruction: &Instruction) -> bool
-    ensures { result ≡ false → (k : ℕ) → k < 4 →
+    ensures none { result ≡ false → (k : ℕ) → k < 4 →
         is_memory_slot (slot_at instruction.now k) ≡ false }
+    ensures some { result ≡ true →
+        (k : ℕ) × (is_memory_slot (slot_at instruction.now k) ≡ true) }
 {
     for i in 0..4 {
         if instruction.slot(i).is_memory() {
@@ -125,13 +144,8 @@ pub fn shortest_length(decoder: &InstDecoder, instruction: &Instruction, bytes: 
 {
     laws::lengths();
     laws::answer_is();
-    laws::memory_operands_denote_their_raw_fields();
-    let length = instruction.len().to_const();
-    if !names_memory(instruction) {
-        return length;
-    }
-    let (encoding, _) = split_at_most(bytes, length as usize);
-    least_length(encoding) as u64
+    let (encoding, _) = split_at_most(bytes, instruction.len().to_const() as usize);
+    least_length(instruction, encoding) as u64
 }
 
 /// The shortest encoding with the same address as the accepted encoding at the beginning of the bytes.
@@ -158,5 +172,5 @@ pub fn tighten(decoder: &InstDecoder, bytes: &[u8]) -> Result<ArrayVec<u8, 15>, 
         Err(error) => return Err(TightenError::Refused(error)),
     };
     let (encoding, _) = split_at_most(bytes, instruction.len().to_const() as usize);
-    tightened(encoding)
+    tightened(&instruction, encoding)
 }

@@ -7,17 +7,17 @@ use Rattle.x86_fields.specs.Run.{reading_of, rex_named}
 use Rattle.x86_fields.specs.Steps.{Outcome, then_from}
 use Rattle.x86_forms.specs.declared.Column.TheVariants.{Plain}
 use Rattle.x86_forms.specs.Words.{packed, rows_of, unpack}
-use Rattle.x86_operands.specs.declared.reader.Reading.{Reading}
+use Rattle.x86_operands.specs.Places.{Placed}
 use Rattle.x86_decode.specs.declared.instructions.Instruction.{Instruction}
 use Rattle.x86_decode.specs.declared.rows.Rest.{Rest}
 use Rattle.x86_decode.specs.Head.{column_of}
-use Rattle.x86_decode.specs.Walk.{head_step, rest_step, row_step, walk_within}
+use Rattle.x86_decode.specs.Walk.{head_step, rest_step, row_placed, walk_placed}
 use Rattle.x86_decode.proofs.HeadWalk.{Headed, byte_is, headed_first}
 use Rattle.x86_decode.proofs.WordWalk.{after_escape, without_escape}
 use Rattle.x86_decode.proofs.decoder.read_plain.Goals.{then-escaped+in_ok-next, else-escaped}
 use Rattle.x86_decode.proofs.decoder.read_plain.Goals as goal
 
-if_read : (r : Result Rest DecodeError) (t : State ℕ) (i : Instruction) (whole : Bool → Outcome Reading) → ((strict : Bool) → then_from r t (rest_step strict i) ≡ whole strict) → IfOk r (λ rest. (strict : Bool) → rest_step strict i rest t ≡ whole strict)
+if_read : (r : Result Rest DecodeError) (t : State ℕ) (i : Instruction) (whole : Bool → Outcome Placed) → ((strict : Bool) → then_from r t (rest_step strict i) ≡ whole strict) → IfOk r (λ rest. (strict : Bool) → rest_step strict i rest t ≡ whole strict)
 if_read (Ok rest) t i whole h = h
 if_read (Err e) t i whole h = tt
 
@@ -38,15 +38,15 @@ returns-in-Some-clause-read g c =
     let plain : column_of p ≡ Plain = ap column_of set in
     let of_word = ap unpack (sym c.in-Some.ensures) ∙ c.in-Some.found.of_word in
     let after = g.T.Reader.state c.if-escaped.reader in
-    let walked : (strict : Bool) → row_step strict row p after ≡ walk_within (rows_of packed) strict start = λ strict. elim c.if-escaped.branch [
+    let walked : (strict : Bool) → row_placed strict row p after ≡ walk_placed (rows_of packed) strict start = λ strict. elim c.if-escaped.branch [
       | then-escaped+in_ok-next w ↦
           let next = g.T.Reader.state w.next-then-escaped.new.self in
           let o = w.in_ok-next.field-0 in
-          ap (row_step strict row p) (ap g.T.Reader.state w.reader-is)
+          ap (row_placed strict row p) (ap g.T.Reader.state w.reader-is)
           ∙ after_escape strict start now b p head plain row o next (eq-eqb b 0x0f w.if-escaped.true) (byte_is now next o w.in_ok-next.ensures.taken w.in_ok-next.ensures.moved)
           (sym (ap unpack (w.word-is ∙ w.word-word.ensures)) ∙ of_word)
       | else-escaped w ↦
-          ap (row_step strict row p) (ap g.T.Reader.state w.reader-is)
+          ap (row_placed strict row p) (ap g.T.Reader.state w.reader-is)
           ∙ without_escape strict start now b p head plain row (sym (ap unpack (w.word-is ∙ w.word-word-else-escaped.ensures)) ∙ of_word)
     ] in
     if_read c.read_by_line.result (g.T.Reader.state c.read_by_line.new.reader) c.read_by_line.new.inst _ (λ strict. c.read_by_line.ensures.read strict ∙ walked strict)

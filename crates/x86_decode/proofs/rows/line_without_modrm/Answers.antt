@@ -6,7 +6,7 @@ use Rattle.x86_decode.proofs.rows.line_without_modrm.Goals as goal
 
 pub returns-then-allows-clause-read : goal.returns-then-allows-clause-read
 returns-then-allows-clause-read c = λ strict i s.
-    row_without_modrm s strict c.args.found.now.row i.prefixes c.absent-modrm.result c.args.encoding.now.after_opcode c.requires.line.group c.requires.line.usage c.requires.no_modrm (search rules) c.absent-modrm.ensures
+    row_without_modrm s i.places.opcode_end strict c.args.found.now.row i.prefixes c.absent-modrm.result c.args.encoding.now.after_opcode c.requires.line.group c.requires.line.usage c.requires.no_modrm (search rules) c.absent-modrm.ensures
 
 pub returns-then-allows-clause-found : goal.returns-then-allows-clause-found
 returns-then-allows-clause-found c =

@@ -4,7 +4,7 @@ use Rattle.x86_fields.specs.declared.prefixes.Prefixes.{Prefixes}
 use Rattle.x86_fields.specs.Steps.{outcome, ◌>>=◌}
 use Rattle.x86_operands.specs.declared.encodings.FormEncoding.{FormEncoding}
 use Rattle.x86_operands.specs.Encodings.{allows, is_described, is_sound, plan_of}
-use Rattle.x86_operands.specs.PlanSteps.{read_plan}
+use Rattle.x86_operands.specs.Places.{plan_placed}
 use Rattle.x86_operands.proofs.OrderLemmas.{allowed_is_described}
 use Rattle.x86_decode.specs.Walk.{plan_at, some_row}
 use Rattle.x86_decode.proofs.HeadWalk.{byte_is, none_is}
@@ -16,20 +16,20 @@ pub returns-in_err-next : goal.returns-in_err-next
 returns-in_err-next g c =
     let r : c.from_residual.result ≡ Err ExhaustedInput = search rules in
     let line = c.word_encoding-encoding.ensures in
-    rw r record { found = tt; read = λ strict i. row_with_modrm _ strict c.args.found.now.row i.prefixes _ line.group line.usage (search rules) (none_is _ _ c.in_err-next.ensures.none_left c.in_err-next.ensures.unmoved) }
+    rw r record { found = tt; read = λ strict i. row_with_modrm _ i.places.opcode_end strict c.args.found.now.row i.prefixes _ line.group line.usage (search rules) (none_is _ _ c.in_err-next.ensures.none_left c.in_err-next.ensures.unmoved) }
 
 pub returns-then-accepts-clause-read : goal.returns-then-accepts-clause-read
 returns-then-accepts-clause-read g c = λ strict i.
     let line = c.word_encoding-encoding.ensures in
-    row_with_modrm _ strict c.args.found.now.row i.prefixes _ line.group line.usage (search rules) (ap (λ m. outcome (Ok m) (g.T.Reader.state c.next.new.self)) c.new-modrm.ensures ∙ byte_is _ _ c.in_ok-next.field-0 c.in_ok-next.ensures.taken c.in_ok-next.ensures.moved)
+    row_with_modrm _ i.places.opcode_end strict c.args.found.now.row i.prefixes _ line.group line.usage (search rules) (ap (λ m. outcome (Ok m) (g.T.Reader.state c.next.new.self)) c.new-modrm.ensures ∙ byte_is _ _ c.in_ok-next.field-0 c.in_ok-next.ensures.taken c.in_ok-next.ensures.moved)
 
 pub returns-else-accepts-clause-read : goal.returns-else-accepts-clause-read
 returns-else-accepts-clause-read g c = λ strict i.
     let m = c.new-modrm.result in
     let s = g.T.Reader.state c.next.new.self in
     let line = c.word_encoding-encoding.ensures in
-    ap (λ o. (some_row o >>= λ row. read_plan (plan_at strict row i.prefixes m) i.prefixes m) s) c.args.found.now.of_word
-    ∙ row_with_modrm _ strict c.args.found.now.row i.prefixes _ line.group line.usage (search rules) (ap (λ m. outcome (Ok m) s) c.new-modrm.ensures ∙ byte_is _ _ c.in_ok-next.field-0 c.in_ok-next.ensures.taken c.in_ok-next.ensures.moved)
+    ap (λ o. (some_row o >>= λ row. plan_placed i.places.opcode_end (plan_at strict row i.prefixes m) i.prefixes m) s) c.args.found.now.of_word
+    ∙ row_with_modrm _ i.places.opcode_end strict c.args.found.now.row i.prefixes _ line.group line.usage (search rules) (ap (λ m. outcome (Ok m) s) c.new-modrm.ensures ∙ byte_is _ _ c.in_ok-next.field-0 c.in_ok-next.ensures.taken c.in_ok-next.ensures.moved)
 
 pub returns-then-accepts-clause-found : goal.returns-then-accepts-clause-found
 returns-then-accepts-clause-found g c =

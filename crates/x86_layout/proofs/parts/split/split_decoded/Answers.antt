@@ -1,42 +1,30 @@
 use Rattle.std.proofs.Common.{◌≤◌, arith, length, ap, ◌∙◌}
-use Rattle.x86_layout.proofs.PartLemmas.OfBytes.{beginning_of, parts_are, parts_once, joined_is, has_parts, lengths_of}
+use Rattle.x86_layout.proofs.PartLemmas.OfBytes.{beginning_of, parts_are, parts_once, joined_is, lengths_of}
 use Rattle.x86_layout.proofs.parts.split.split_decoded.Goals as goal
 
-pub head_of-requires : goal.head_of-requires
-head_of-requires c =
+pub parts_at-requires : goal.parts_at-requires
+parts_at-requires c =
     let strict = c.args.decoder.now.strict in
     let bytes = c.args.bytes.now in
-    let beginning = beginning_of strict bytes c.requires.decoded (c.answer_is.ensures.there strict bytes) (c.lengths.ensures.counted strict bytes) (c.to_const.ensures ∙ ap (λ d. d.amount) c.len.ensures) c.split_at_most.ensures.first in
-    record { strict = strict; answer = c.args.instruction.now; is = beginning.is }
-
-pub parts_after-requires : goal.parts_after-requires
-parts_after-requires c =
-    let strict = c.args.decoder.now.strict in
-    let bytes = c.args.bytes.now in
-    let beginning = beginning_of strict bytes c.requires.decoded (c.answer_is.ensures.there strict bytes) (c.lengths.ensures.counted strict bytes) (c.to_const.ensures ∙ ap (λ d. d.amount) c.len.ensures) c.split_at_most.ensures.first in
-    let is = beginning.is in
-    record { strict = strict; bytes = c.split_at_most.result.0.now; reading = is.reading; whole = is.whole; is = c.head_of.ensures strict is.reading is.whole }
+    let is = (beginning_of strict bytes c.requires.decoded (c.answer_is.ensures.there strict bytes) (c.lengths.ensures.counted strict bytes) (c.to_const.ensures ∙ ap (λ d. d.amount) c.len.ensures) c.split_at_most.ensures.first).is in
+    record { strict = strict; reading = is.reading; whole = is.whole; are = c.places.ensures ∙ ap (λ i. i.places) is.yields }
 
 pub returns-clause-pieces : goal.returns-clause-pieces
 returns-clause-pieces c =
     let strict = c.args.decoder.now.strict in
     let bytes = c.args.bytes.now in
-    let encoding = c.split_at_most.result.0.now in
     let beginning = beginning_of strict bytes c.requires.decoded (c.answer_is.ensures.there strict bytes) (c.lengths.ensures.counted strict bytes) (c.to_const.ensures ∙ ap (λ d. d.amount) c.len.ensures) c.split_at_most.ensures.first in
-    let reading = beginning.is.reading in
-    let whole = beginning.is.whole in
-    let head = c.head_of.ensures strict reading whole in
-    let following = c.parts_after.ensures in
-    let parts = has_parts whole c.parts_after.result head following.prefixes following.escape following.opcode following.tail in
+    let is = beginning.is in
+    let parts = c.parts_at.ensures strict is.reading is.whole (c.places.ensures ∙ ap (λ i. i.places) is.yields) in
     record {
       instruction = c.args.instruction.now;
-      encoding = encoding;
+      encoding = c.split_at_most.result.0.now;
       rest = beginning.rest;
-      reading = reading;
+      reading = is.reading;
       accepted = beginning.accepted;
       begins = beginning.begins;
       long = beginning.long;
-      whole = whole;
+      whole = is.whole;
       parts = parts;
       together = joined_is parts;
     }

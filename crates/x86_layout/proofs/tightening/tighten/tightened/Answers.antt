@@ -25,18 +25,18 @@ module _ {strict : Bool} {s : List ℕ} {a : Instruction} (is : IsSentence (rows
 pub respelled-requires : goal.respelled-requires
 respelled-requires c =
     let is = c.requires.is in
-    let h = c.in-Ok.ensures.raw c.requires.strict c.requires.answer is in
+    let h = c.in-Ok.ensures.raw c.requires.strict is in
     rw (c.shortest.ensures) (respelled_fits is.whole h.read c.in-Ok.found.parts h.parts (fit is h c.type_inv.encoding) h.form is.short)
 
 pub returns-in-Ok-clause-shortest : goal.returns-in-Ok-clause-shortest
-returns-in-Ok-clause-shortest c = λ strict a is.
-    let h = c.in-Ok.ensures.raw strict a is in
+returns-in-Ok-clause-shortest c = λ strict is.
+    let h = c.in-Ok.ensures.raw strict is in
     record {
       form = operand_form is.whole c.in-Ok.found.raw h.read false h.form;
       shortest = shortest_relative is.whole h.read (fit is h c.type_inv.encoding) c.respelled.result.items (spelled is h c.type_inv.encoding c.shortest.ensures c.respelled.ensures) is.lock is.short h.form;
     }
 
 pub returns-in-Ok-clause-least : goal.returns-in-Ok-clause-least
-returns-in-Ok-clause-least c = λ strict a is.
-    let h = c.in-Ok.ensures.raw strict a is in
+returns-in-Ok-clause-least c = λ strict is.
+    let h = c.in-Ok.ensures.raw strict is in
     least_of_shortest is.whole h.read (fit is h c.type_inv.encoding) c.respelled.result.items (spelled is h c.type_inv.encoding c.shortest.ensures c.respelled.ensures) h.form

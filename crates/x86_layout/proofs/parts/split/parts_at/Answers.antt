@@ -1,0 +1,24 @@
+use Rattle.std.proofs.Common.{ap, ◌∙◌}
+use Rattle.x86_layout.proofs.PartLemmas.Places.{escape_cut, fields_cut, head_cut, opcode_cut, suffix_cut}
+use Rattle.x86_layout.proofs.parts.split.parts_at.Goals as goal
+
+pub returns : goal.returns
+returns c = λ strict reading w are.
+    let n_is = c.from-opcode_end.ensures in
+    let head = head_cut w are n_is in
+    let opcode = opcode_cut w are n_is (c.split_at.ensures.front ∙ head.0) in
+    let before = c.split_at-2.ensures.front ∙ opcode.0 in
+    let escape = escape_cut w are before (c.escape_at_end.ensures.escape w.run w.map w.prefixes before) in
+    let fields = fields_cut w are n_is (c.split_at.ensures.back ∙ head.1) c.from.ensures in
+    let suffix = suffix_cut w are (c.split_at-4.ensures.back ∙ fields.1) c.from-2.ensures in
+    let address = c.split_address.ensures _ _ _ _ w.row_spelled (c.split_at-4.ensures.front ∙ fields.0) in
+    record {
+      prefixes = c.split_at-3.ensures.front ∙ escape.0;
+      escape = c.split_at-3.ensures.back ∙ escape.1;
+      opcode = c.split_at-2.ensures.back ∙ opcode.1;
+      modrm = address.0;
+      sib = address.1;
+      address = address.2;
+      immediate = c.split_at-5.ensures.front ∙ suffix.0;
+      suffix = c.split_at-5.ensures.back ∙ suffix.1;
+    }
