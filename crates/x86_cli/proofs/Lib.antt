@@ -1,4 +1,5 @@
--- The lemmas on worked sentences, on the window, on listings and on commands.
+-- The lemmas on addresses, on worked sentences, on the window, on listings and on commands.
+pub mod AddressLemmas
 pub mod WorkedLemmas
 pub mod TextLemmas
 pub mod ListingLemmas

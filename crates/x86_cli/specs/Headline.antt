@@ -3,7 +3,7 @@ use Rattle.std.specs.Prelude.{◌≡◌, ◌≢◌, ◌↔◌, ℕ, ◌<◌, ◌
 use Rattle.x86_fields.specs.declared.errors.DecodeError.{DecodeError}
 use Rattle.x86_fields.specs.declared.errors.DecodeError.TheVariants.{ExhaustedInput}
 use Rattle.x86_fields.specs.declared.raw.Raw.{Raw}
-use Rattle.x86_fields.specs.Linear.{raw_form, value_at, IsRegFile}
+use Rattle.x86_fields.specs.Linear.{IsRegFile}
 use Rattle.x86_forms.specs.declared.Map.{Map}
 use Rattle.x86_forms.specs.declared.Column.{Column}
 use Rattle.x86_forms.specs.Rows.{printed_row}
@@ -24,6 +24,7 @@ use Rattle.x86_layout.specs.Tightening.Tighten.{HasOperandForm, IsShortest, IsRe
 use Rattle.x86_streams.specs.Text.{Text}
 use Rattle.x86_layout.specs.declared.sweeps.cuts.Cut.{Cut}
 use Rattle.x86_layout.specs.Sweeps.Cuts.{cuts_from}
+use Rattle.x86_cli.specs.Addresses.{encoded_address}
 use Rattle.x86_cli.specs.Listings.Grammar.{AreCuts, IsListing}
 use Rattle.x86_cli.specs.Listings.Listing.{Listing, listing_at}
 
@@ -74,9 +75,9 @@ module _ (strict : Bool) where
     pub refused : (bytes : List ℕ) (e : DecodeError) → (answer_of strict bytes ≡ Err e) ↔ IsRefusedBy bytes e
     pub stays : (bytes more : List ℕ) → answer_of strict bytes ≢ Err ExhaustedInput →
         answer_of strict (bytes ++ more) ≡ answer_of strict bytes
-    -- A memory operand that ModRM spells has the address of its raw fields, at every register file and next pointer.
+    -- A memory operand that ModRM spells has the address that its bits encode, at every register file and next pointer.
     pub addresses : (s : List ℕ) (i : Instruction) (is : Sentence s i) (k : ℕ) (raw : Raw) → HasRaw is k raw →
-        IsByteString s → (regs : List ℕ) (next : ℕ) → address_at i k regs next ≡ Some (value_at (raw_form raw) regs next)
+        IsByteString s → (regs : List ℕ) (next : ℕ) → address_at i k regs next ≡ Some (encoded_address raw regs next)
     -- A listing has a line for each sentence, one after the other, and then what ends it.
     pub listing : (text : ℕ → Instruction → List ℕ → List ℕ) (place : ℕ) (t : Text) (l : Listing) →
         IsListing (rows_of packed) strict text place t.image t.ending l ↔ (l ≡ listing_at strict text place t)

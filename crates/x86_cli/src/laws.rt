@@ -4,6 +4,8 @@
 ghost use Rattle.std.specs.Prelude.{◌≡◌, ◌≢◌, ◌↔◌, ℕ, ◌+◌, ◌≤◌, Bool, IsTrue, true, false, List, Option, length};
 ghost use Rattle.x86_decode.specs.declared.instructions.Instruction.{Instruction};
 ghost use Rattle.x86_decode.specs.Instruction.{length_of};
+ghost use Rattle.x86_fields.specs.Linear.{raw_form, value_at};
+ghost use Rattle.x86_fields.specs.declared.raw.Raw.{Raw};
 ghost use Rattle.x86_forms.specs.Words.{rows_of, packed};
 ghost use Rattle.x86_layout.specs.Parts.OfBytes.{parts_of};
 ghost use Rattle.x86_layout.specs.Sweeps.Cuts.{cuts_from};
@@ -11,6 +13,7 @@ ghost use Rattle.x86_layout.specs.Tightening.Least.{shortest_length};
 ghost use Rattle.x86_layout.specs.declared.sweeps.cuts.Cut.{Cut};
 ghost use Rattle.x86_text.specs.Lines.{line_of};
 ghost use Rattle.x86_text.specs.Parts.{fields_line};
+ghost use Rattle.x86_cli.specs.Addresses.{encoded_address};
 ghost use Rattle.x86_cli.specs.DecoderLaws.{DecoderLaws};
 ghost use Rattle.x86_cli.specs.Commands.Command.{goes_past_refusals};
 ghost use Rattle.x86_cli.specs.Commands.Request.{Runs, task_of, up_to_refusal};
@@ -85,6 +88,7 @@ fn headline_of_bytes()
     laws::one_answer();
     laws::answers_of_more();
     laws::decided_bytes_are_refused();
+    addresses_are_by_the_bits();
     x86_forms::laws::printed_words_are_the_printed_rows();
     x86_layout::laws::memory_operands_have_their_address();
     x86_layout::laws::parts_are_those_of_the_bytes();
@@ -95,6 +99,13 @@ fn headline_of_bytes()
     x86_layout::laws::relatives_are_the_same_instruction();
     by_grammar();
 }
+
+/// The value of the form of raw fields is the address that their bits encode.
+#[tactic(auto, using(crate::proofs::AddressLemmas::by_the_bits))]
+pub fn addresses_are_by_the_bits()
+    ensures { (raw : Raw) (regs : List ℕ) (next : ℕ)
+        → value_at (raw_form raw) regs next ≡ encoded_address raw regs next }
+{}
 
 /// The line of each command, the listing of each of the two courses, what is known of that as the text is read, and the
 /// task of each request.

@@ -1,13 +1,14 @@
 //! Sentences and refusals of the grammar, worked by hand. Their derivations are in proofs/WorkedLemmas.antt.
 
-ghost use Rattle.std.specs.Prelude.{◌≡◌, ℕ, Bool, List, [], ◌∷◌, Ok, Err};
+ghost use Rattle.std.specs.Prelude.{◌≡◌, ℕ, Bool, true, List, [], ◌∷◌, pos, negsuc, Some, None, Ok, Err};
 ghost use Rattle.x86_fields.specs.declared.errors.DecodeError.TheVariants.{InvalidOpcode, InvalidPrefixes};
 ghost use Rattle.x86_forms.specs.Words.{rows_of, packed};
 ghost use Rattle.x86_decode.specs.Answer.{answer_of};
 ghost use Rattle.x86_decode.specs.Grammar.{Decides};
 ghost use Rattle.x86_decode.specs.Instruction.{instruction_of};
+ghost use Rattle.x86_cli.specs.Addresses.{encoded_address};
 ghost use Rattle.x86_cli.specs.Headline.{Sentence};
-ghost use Rattle.x86_cli.specs.Worked.{add_rax_rbx, mov_rax_at_rbp, neg_eax, add_at_rbx_rax, places_at, pshufb_xmm0_xmm1};
+ghost use Rattle.x86_cli.specs.Worked.{add_rax_rbx, mov_rax_at_rbp, neg_eax, add_at_rbx_rax, places_at, pshufb_xmm0_xmm1, hundreds, plain_raw};
 
 use crate::laws::headline_of_bytes;
 use x86_decode::laws::decided_bytes_are_refused;
@@ -70,6 +71,19 @@ pub fn chosen_by_66()
 {
     headline_of_bytes();
 }
+
+/// Addresses at registers of which number n has 100 times n, and at a next instruction at 7.
+pub fn addresses()
+    ensures base { encoded_address (plain_raw 0x45 None (negsuc 7)) hundreds 7 ≡ 492 }
+    ensures next { encoded_address (plain_raw 0x05 None (pos 16)) hundreds 7 ≡ 23 }
+    ensures index { encoded_address (plain_raw 0x44 (Some 0x8b) (pos 16)) hundreds 7 ≡ 716 }
+    ensures no_register { encoded_address (plain_raw 0x04 (Some 0x25) (pos 64)) hundreds 7 ≡ 64 }
+    ensures fourth_bit { encoded_address
+        (record (plain_raw 0x04 (Some 0x20) (pos 0)) { rex_x = true }) hundreds 7 ≡ 1200 }
+    ensures of_32_bits { encoded_address
+        (record (plain_raw 0x45 None (negsuc 599)) { address_size = true }) hundreds 7
+        ≡ 4294967196 }
+{}
 
 /// `06` is refused as an invalid opcode, whatever follows it: the byte has no row.
 pub fn no_row()

@@ -1,4 +1,4 @@
-use Rattle.std.proofs.Common.{arith, ℕ, ◌≤◌, Bool, List, ◌++◌, length, Result, Ok, Err, refl, sym, ap}
+use Rattle.std.proofs.Common.{arith, ℕ, ◌≤◌, Bool, List, ◌++◌, length, Result, Some, Ok, Err, refl, sym, ap, ◌∙◌}
 use Rattle.std.proofs.Math.Seq.{take-append_seam}
 use Rattle.x86_decode.specs.declared.instructions.Instruction.{Instruction}
 use Rattle.x86_fields.specs.declared.errors.DecodeError.{DecodeError}
@@ -41,7 +41,8 @@ returns c strict =
         (λ h. sym (only bytes (Err e) h.0 h.1).0),
       );
       stays = c.answers_of_more.ensures.answer strict;
-      addresses = λ s i is k raw has bytes. c.memory_operands_have_their_address.ensures strict s i is raw k has.0 has.1 bytes;
+      addresses = λ s i is k raw has bytes regs next.
+          c.memory_operands_have_their_address.ensures strict s i is raw k has.0 has.1 bytes regs next ∙ ap (λ n. Some n) (c.addresses_are_by_the_bits.ensures raw regs next);
       listing = c.by_grammar.ensures.listing strict;
       cuts = c.by_grammar.ensures.cuts strict;
       parts = λ s rest i is. c.parts_are_those_of_the_bytes.ensures strict s rest is.reading is.whole;
