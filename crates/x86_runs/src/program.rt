@@ -86,7 +86,10 @@ const LONG: &[(u64, u64, usize)] = &[
 #[test]
 fn long_outputs(rt: HostRuntime) {
     for (pairs, singles, most) in LONG {
-        assert!(&rt; lists_whole(rt.alloc(), *pairs, *singles, *most));
+        assert!(&rt;
+            lists_whole(rt.alloc(), *pairs, *singles, *most),
+            "{pairs} {singles} {most}"
+        );
     }
 }
 
@@ -145,7 +148,7 @@ const FAILING: &[(usize, u64, &str)] = &[
 fn readers_that_fail(rt: HostRuntime) {
     for (most, fails, wanted) in FAILING {
         let reader = two_singles(*most, *fails, ErrorKind::Other);
-        assert!(&rt; program_shows(rt.alloc(), reader, wanted));
+        assert!(&rt; program_shows(rt.alloc(), reader, wanted), "{most} {fails}");
     }
 }
 
@@ -159,7 +162,10 @@ const ENDS: &[(&str, &str)] = &[
 #[test]
 fn ends_of_the_program(rt: HostRuntime) {
     for (text, wanted) in ENDS {
-        assert!(&rt; program_shows(rt.alloc(), text.as_bytes(), wanted));
+        assert!(&rt;
+            program_shows(rt.alloc(), text.as_bytes(), wanted),
+            "{text}"
+        );
     }
 }
 
@@ -167,7 +173,7 @@ fn ends_of_the_program(rt: HostRuntime) {
 fn an_interrupted_read_is_made_again(rt: HostRuntime) {
     for fails in [0, 1, 2, 6] {
         let reader = two_singles(1, fails, ErrorKind::Interrupted);
-        assert!(&rt; program_shows(rt.alloc(), reader, WHOLE));
+        assert!(&rt; program_shows(rt.alloc(), reader, WHOLE), "{fails}");
     }
 }
 
@@ -205,7 +211,7 @@ const READS: &[(&str, u64)] = &[
 #[test]
 fn the_end_is_read_once(rt: HostRuntime) {
     for (text, reads) in READS {
-        assert!(&rt; makes_reads(rt.alloc(), text.as_bytes(), *reads));
+        assert!(&rt; makes_reads(rt.alloc(), text.as_bytes(), *reads), "{text}");
     }
 }
 

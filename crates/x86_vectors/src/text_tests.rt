@@ -85,7 +85,7 @@ const REFUSALS: &[(DecodeError, &str)] = &[
 #[test]
 fn refusals_by_their_descriptions(rt: HostRuntime) {
     for (error, text) in REFUSALS {
-        assert!(&rt; is_shown(rt.alloc(), error, text));
+        assert!(&rt; is_shown(rt.alloc(), error, text), "{text}");
     }
 }
 
