@@ -46,13 +46,12 @@ __asm__(".globl enter\nenter:\n"
         "pop %r15\npop %r14\npop %r13\npop %r12\npop %rbp\npop %rbx\nret\n");
 
 /* The first trap is that of start_engine, whose frame is kept to make others from. */
-static void keep_frame(ucontext_t *context, const siginfo_t *info)
+static void keep_frame(ucontext_t *context)
 {
     struct _fpx_sw_bytes *words = (void *)((uint8_t *)context->uc_mcontext.fpregs + STATE_WORDS);
     frame.context = *context;
-    frame.info = *info;
-    state_size = words->magic1 == FP_XSTATE_MAGIC1 ? words->extended_size : 0;
-    if (state_size > 0 && state_size <= STATE_MAX) memcpy(clean_state, context->uc_mcontext.fpregs, state_size);
+    state_size = words->magic1 == FP_XSTATE_MAGIC1 && words->extended_size <= STATE_MAX ? words->extended_size : 0;
+    memcpy(clean_state, context->uc_mcontext.fpregs, state_size);
     context->uc_mcontext.gregs[REG_RIP] += 2;       /* the place after UD2 */
 }
 
@@ -61,7 +60,7 @@ static void handle(int number, siginfo_t *info, void *place)
     ucontext_t *context = place;
     const greg_t *saved = context->uc_mcontext.gregs;
     (void)number;
-    if (state_size == 0) { keep_frame(context, info); return; }
+    if (state_size == 0) { keep_frame(context); return; }
     if (!is_running) _exit(2);                      /* a fault of this program itself */
     is_running = false;
     last = (struct outcome){(int)saved[REG_TRAPNO], (int)saved[REG_ERR], (uint64_t)saved[REG_RIP], saved[REG_TRAPNO] == TRAP_PF ? (uint64_t)info->si_addr : 0};
@@ -115,7 +114,7 @@ void start_engine(bool with_data)
     for (unsigned k = 0; k < sizeof signals / sizeof *signals; k++)
         if (sigaction(signals[k], &action, NULL)) err(2, "sigaction");
     __asm__ volatile("ud2" ::: "memory");
-    if (state_size == 0 || state_size > STATE_MAX) errx(2, "there is no state of XSAVE in the frame");
+    if (state_size == 0) errx(2, "there is no state of XSAVE in the frame");
     install_filter();
 }
 

@@ -31,39 +31,25 @@ static bool read_register(const char *text, struct operand *it)
     return false;
 }
 
-/* A part of an address: `+8`, `-8`, `rbx`, `+rcx*4`. */
-static bool read_part(char *part, struct operand *it)
-{
-    struct operand found = {0};
-    int sign = *part == '-' ? -1 : 1;
-    char *star = strchr(part, '*');
-    part += *part == '+' || *part == '-';
-    if (*part >= '0' && *part <= '9') {
-        it->value = sign * strtoll(part, NULL, 10);
-        return true;
-    }
-    if (star) *star = '\0';
-    bool is_read = read_register(part, &found);
-    it->class = found.class;
-    *(star ? &it->index : &it->number) = found.number;
-    if (star) it->scale = atoi(star + 1);
-    return is_read;
-}
-
+/* `[abs32:8]`, or parts as `+8`, `-8`, `rbx`, `+rcx*4`. */
 static bool read_memory(char *text, struct operand *it)
 {
+    char word[8];
     *it = (struct operand){.kind = MEMORY, .number = NO_REGISTER, .index = NO_REGISTER, .scale = 1};
-    text[strcspn(text, "]")] = '\0';
-    if (!strncmp(text, "[abs", 4)) {
-        it->absolute = atoi(text + 4);
+    if (sscanf(text, "[abs%d:", &it->absolute) == 1) {
         it->value = (int64_t)strtoull(text + 7, NULL, 10);
-        return text[6] == ':';
+        return true;
     }
-    for (text++; *text;) {
-        char part[32] = "";
-        size_t length = 1 + strcspn(text + 1, "+-");
-        if (length >= sizeof part || !read_part(memcpy(part, text, length), it)) return false;
-        text += length;
+    for (text++; *text && *text != ']'; text += strcspn(text, "+-]")) {
+        struct operand found = {0};
+        bool is_negative = *text == '-', is_number = sscanf(text, "%*[+-]%1[0-9]", word) == 1;
+        if (is_number) it->value = strtoll(text + 1, NULL, 10) * (is_negative ? -1 : 1);
+        text += *text == '+' || is_negative;
+        if (is_number) continue;
+        if (sscanf(text, "%7[a-z0-9]", word) != 1 || !read_register(word, &found)) return false;
+        it->class = found.class;
+        bool is_index = sscanf(text + strlen(word), "*%d", &it->scale) == 1;
+        *(is_index ? &it->index : &it->number) = found.number;
     }
     return true;
 }

@@ -78,12 +78,6 @@ class Bench:
         flags = "-O2 -Wall -fPIE -pie -fno-stack-protector -fcf-protection=none".split()
         subprocess.run(["cc", *flags, "-o", self.judge, *sorted(HERE.glob("*.c")), HERE.parent / "judge" / "code.c"], check=True)
 
-    def probe(self):
-        """The processor, and why nothing can be tried here, or None."""
-        ran = subprocess.run([self.judge, "probe"], stdout=subprocess.PIPE, stderr=subprocess.STDOUT, text=True, errors="replace")
-        name, *why = ran.stdout.splitlines() or [""]
-        return name, None if ran.returncode == 0 else "; ".join(why) or f"the probe ended with status {ran.returncode}"
-
     def has_addresses(self):
         self.addresses = self.addresses or examples.built("addresses", "x86_layout", self.work)
         return self.addresses is not None
@@ -194,9 +188,12 @@ def opened(work, programs):
     """The judge and the programs, or None with a line where this machine can't do it."""
     hold_rows()
     bench = Bench(work, programs)
-    name, why = bench.probe()
-    print(f"compare: not tried here: {why} ({name})" if why else name, file=sys.stderr if why else sys.stdout, flush=True)
-    return None if why else bench
+    probe = subprocess.run([bench.judge, "probe"], stdout=subprocess.PIPE, stderr=subprocess.STDOUT, text=True, errors="replace")
+    if probe.returncode == 0:
+        print(probe.stdout, end="", flush=True)
+        return bench
+    print(f"compare: not tried here: the probe ended with status {probe.returncode}: {'; '.join(probe.stdout.splitlines())}", file=sys.stderr)
+    return None
 
 
 def main(bench, words):

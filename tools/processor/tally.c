@@ -1,8 +1,8 @@
 /* Counts by words, with an example of each, printed as COUNT, WORDS and EXAMPLE with tabs between. */
 #include "processor.h"
+#include <err.h>
 #include <stdarg.h>
 #include <stdio.h>
-#include <stdlib.h>
 #include <string.h>
 
 enum { SLOTS = 65536 };
@@ -17,20 +17,19 @@ void set_example(const uint8_t *bytes, int count, const char *text, const struct
     last = (struct example){bytes, count < 24 ? count : 24, text, of ? *of : (struct outcome){.trap = -1}};
 }
 
-static void write_example(char *to, size_t size)
+static void write_example(char to[176])
 {
-    size_t at = 0;
-    for (int k = 0; k < last.count; k++) at += (size_t)snprintf(to + at, size - at, "%02x", last.bytes[k]);
-    at += (size_t)snprintf(to + at, size - at, " | %.60s", last.text ? last.text : "");
+    for (int k = 0; k < last.count; k++) to += sprintf(to, "%02x", last.bytes[k]);
+    to += sprintf(to, " | %.60s", last.text ? last.text : "");
     if (last.of.trap < 0) return;
-    snprintf(to + at, size - at, " | %s at %+lld, address %llx", trap_name(last.of.trap), (long long)(last.of.rip - CODE_END), (unsigned long long)last.of.cr2);
+    sprintf(to, " | %s at %+lld, address %llx", trap_name(last.of.trap), (long long)(last.of.rip - CODE_END), (unsigned long long)last.of.cr2);
 }
 
 void tally(const char *format, ...)
 {
     char words[112];
-    va_list values;
     uint32_t hash = 2166136261u;
+    va_list values;
     va_start(values, format);
     vsnprintf(words, sizeof words, format, values);
     va_end(values);
@@ -38,9 +37,9 @@ void tally(const char *format, ...)
     struct slot *slot = &slots[hash % SLOTS];
     while (slot->count && strcmp(slot->words, words)) slot = slot + 1 < slots + SLOTS ? slot + 1 : slots;
     if (slot->count++) return;
-    if (++used > SLOTS - 16) { fprintf(stderr, "processor: too many words to count\n"); exit(2); }
+    if (++used > SLOTS - 16) errx(2, "there are too many words to count");
+    write_example(slot->example);
     strcpy(slot->words, words);
-    write_example(slot->example, sizeof slot->example);
 }
 
 void print_tally(void)
