@@ -1,16 +1,16 @@
 //! The program's parts: hex text in, listings out, over any source and sink, and over any reader and writer.
 //! Sources, sinks and the reader of hex text are those of x86_streams.
 //!
-//! `run` obeys words over a `Source` and a `Sink`, and `listed` over all that is read from and written to, as a reader
-//! and a writer of std:
+//! `run` obeys words over a `Source` and a `Sink`, and `listed` over a reader and a writer of std, as one value:
 //!
 //! ```
-//! let mut streams = Joined {
-//!     reader: SoundSource::new(b"48 01 d8"),
-//!     writer: ArraySink::<64>::new(u64::MAX),
-//! };
-//! run(words, &mut streams)   // Status::Done, where `words` is `["list"]`
-//! streams.writer.written()   // b"0 3 ADD rax, rbx m8\n"
+//! let mut source = SoundSource::new(b"48 01 d8");
+//! let mut sink = ArraySink::<64>::new(u64::MAX);
+//! run(words, &mut source, &mut sink)   // Status::Done, where `words` is `["list"]`
+//! sink.written()                       // b"0 3 ADD rax, rbx m8\n"
+//!
+//! let mut streams = Joined { reader, writer };
+//! listed(words, &Process, &mut streams).status
 //! ```
 //!
 //! `Program::run` runs a program of yours over such streams, as x86_show does.

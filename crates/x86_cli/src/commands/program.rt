@@ -36,8 +36,8 @@ impl Program for Request {
     }
 }
 
-/// Does what the words request, over streams that are read and written: a reader and a writer, as one state. The clause
-/// `lists` names each call in its order, for all such streams, files and pipes too:
+/// Does what the words request, over streams: what is read and what is written, in one value, as a `Joined` has them. The
+/// clause `lists` names each call in its order, for all streams, files and pipes too:
 ///
 /// - `Done`: the writer took the whole listing. The reads of a command end with one that returned no byte; `make` makes
 ///   none.
@@ -48,9 +48,9 @@ impl Program for Request {
 ///   that aren't empty. The writer took a prefix of the listing.
 ///
 /// At every status but `WriteFault` and `Usage` the last call is a flush that succeeded. Only a call that a signal
-/// interrupted is made again. Before each read, all lines that the bytes so far decide were written and flushed. After a
-/// refusal, the end, an error or a failed write nothing is read. That `Process` passes each call on to std's is checked
-/// by inspection.
+/// interrupted is made again. Before each read, all lines that the bytes so far decide were written and flushed, and no
+/// more are certain (`laws::known_is_all`). After a refusal, the end, an error or a failed write nothing is read. That
+/// `Process` passes each call on to std's is checked by inspection.
 pub fn listed<E, O: Input<E> + Output<E>>(
     words: &[String],
     outside: &O,
