@@ -1,5 +1,5 @@
 #!/usr/bin/env python3
-"""Writes the files that only repeat what six lists say, so that a name, a form or a row is edited in one place.
+"""Writes the files that only repeat what seven lists say, so that a name, a form or a row is edited in one place.
 
     python3 tools/tables.py            writes them
     python3 tools/tables.py --check    changes nothing; says which are not what it would write, and then ends with status 1
@@ -12,8 +12,9 @@ The lists, which people edit:
     crates/x86_regs/specs/Names.antt           the registers of each class
     crates/x86_operands/specs/Rows.antt        the rows of the plain forms, a line for each row
     crates/x86_groups/specs/Rows.antt          the rows of the groups, a line for each row
+    crates/x86_show/specs/Text/Entries.antt    how `show` writes an operation, a line for each that isn't written as its name
 
-Of the last two, tools/form_rows.py writes the tables of rows, and tools/form_lines.py the lines that say the same.
+Of the two before the last, tools/form_rows.py writes the tables of rows, and tools/form_lines.py the lines that say the same.
 
 Nothing rests on this script. What it writes is checked like all other code: that the constants have the numbers and
 spellings of their names, that each form is at its ordinal, and that each table has the words of the rows, is proved.
@@ -35,6 +36,7 @@ REGS = TOP / "crates" / "x86_regs"
 OPERANDS = TOP / "crates" / "x86_operands"
 GROUPS = TOP / "crates" / "x86_groups"
 TEXT = TOP / "crates" / "x86_text"
+SHOW = TOP / "crates" / "x86_show"
 
 MAPS = ["One", "Of", "Of38", "Of3a"]
 COLUMNS = ["Plain", "P66", "F3", "F2"]
@@ -257,6 +259,23 @@ def sizes_rt():
     return lines + name_table("SIZES", 4, [" m?" if size == form_rows.UNDECIDED else f" m{size}" for size in range(65)])
 
 
+def entries():
+    """Each operation with the text and the letters by which `show` writes it: its line in the list, else its name in lower case and dashes."""
+    text = (SHOW / "specs" / "Text" / "Entries.antt").read_text()
+    pattern = r'    row opcode\.(\w+) (?:\[\]|\(codes "([^"]+)"\)) \(codes "(.{6})"\) ∷'
+    listed = {name: (spelled, letters) for name, spelled, letters in lines_of(text, "rows =", r"    \[\]", pattern)}
+    for name in names():
+        spelled, letters = listed.get(name, (None, "-" * 6))
+        yield spelled or name.lower(), letters
+
+
+def entries_rt():
+    lines = ["//! How each operation is written, in the order of the opcodes' numbers.", "//!"]
+    lines += note("//!", "specs/Text/Entries.antt") + ["use crate::text::names::{Entry, entry};", ""]
+    lines += [f"pub(crate) static ENTRIES: [Entry; {len(names())}] = ["]
+    return lines + [f'    entry!(b"{text:<16}", {len(text)}, b"{letters}"),' for text, letters in entries()] + ["];"]
+
+
 def form_lines_rt():
     lines = ["//! The operand encodings of the forms: a line a form, in the order of the variants of `Form`.", "//!"]
     lines += note("//!", "specs/Rows.antt") + ["use crate::AfterOpcode::{ByPlan, ByReg, Group};", "use crate::plans::ModrmUse;"]
@@ -296,6 +315,7 @@ def written():
         TEXT / "src" / "mnemonics.rt": mnemonics_rt(),
         TEXT / "src" / "registers.rt": registers_rt(),
         TEXT / "src" / "sizes.rt": sizes_rt(),
+        SHOW / "src" / "text" / "entries.rt": entries_rt(),
     }
 
 

@@ -1,3 +1,6 @@
 -- The lemmas on the listing.
 pub mod Blanks
+pub mod Heads
+pub mod VectorLemmas
 pub mod ListingLemmas
+pub mod PieceLemmas

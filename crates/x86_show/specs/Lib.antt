@@ -1,6 +1,7 @@
--- The definitions that the contracts cite: the text of operands and instructions, lines, listings, and words.
-pub mod Operands
-pub mod Instructions
+-- The definitions that the contracts cite: the text of instructions, vectors, lines, listings, and words.
+pub mod Text
+pub mod Vectors
 pub mod Lines
 pub mod Listing
+pub mod Pieces
 pub mod Program

@@ -1,24 +1,34 @@
 -- The lines of a listing: an address, the bytes, and what they are.
-use Rattle.std.specs.Prelude.{ℕ, ◌+◌, ◌-◌, ◌*◌, List, ◌++◌, length, replicate, codes}
-use Rattle.x86_fields.specs.declared.errors.DecodeError.{DecodeError}
-use Rattle.x86_fields.specs.Errors.{description_of}
+use Rattle.std.specs.Prelude.{ℕ, ◌+◌, ◌-◌, ◌*◌, ◌%◌, ◌^◌, List, [], ◌∷◌, ◌++◌, length, replicate, codes}
+use Rattle.x86_fields.specs.Parts.{PartLists}
 use Rattle.x86_decode.specs.declared.instructions.Instruction.{Instruction}
+use Rattle.x86_decode.specs.Instruction.{length_of}
 use Rattle.x86_lines.specs.Hexadecimal.{hexadecimal, spaced_bytes}
-use Rattle.x86_show.specs.Instructions.{shown_instruction, next_of}
+use Rattle.x86_show.specs.Text.Instructions.{listed_text}
 
 -- a line without its end and its room, as the code names it
 abbrev pub shown_room : ℕ
-shown_room = 320
+shown_room = 528
 
--- the address, and the bytes in a column that is as wide as eight of them
+abbrev pub tab : List ℕ
+tab = 9 ∷ []
+
+-- the address, and the bytes in a column that is as wide as seven of them
 unfoldable pub beginning : ℕ → List ℕ → List ℕ
-beginning address bytes =
-    hexadecimal address ++ codes "  " ++ spaced_bytes bytes ++ replicate (1 + 3 * (8 - length bytes)) 32
+beginning address bytes = hexadecimal address ++ codes ":" ++ tab ++ spaced_bytes bytes ++ replicate (21 - 3 * length bytes) 32 ++ tab
 
--- ADDRESS  BYTES  INSTRUCTION
-abbrev pub shown_text : ℕ → List ℕ → Instruction → List ℕ
-shown_text address bytes i = beginning address bytes ++ shown_instruction i (next_of address i)
+-- the address after an instruction
+abbrev pub next_of : ℕ → Instruction → ℕ
+next_of address i = (address + length_of i) % 2 ^ 64
 
--- ADDRESS  BYTES  (bad: DESCRIPTION)
-abbrev pub refused_text : ℕ → List ℕ → DecodeError → List ℕ
-refused_text address bytes error = beginning address bytes ++ codes "(bad: " ++ description_of error ++ codes ")"
+-- ADDRESS: BYTES INSTRUCTION
+abbrev pub shown_text : ℕ → List ℕ → Instruction → PartLists → List ℕ
+shown_text address bytes i p = beginning address bytes ++ listed_text i p (next_of address i)
+
+-- ADDRESS: BYTES (vex)
+abbrev pub vector_text : ℕ → List ℕ → List ℕ
+vector_text address bytes = beginning address bytes ++ codes "(vex)"
+
+-- ADDRESS: BYTES (bad)
+abbrev pub refused_text : ℕ → List ℕ → List ℕ
+refused_text address bytes = beginning address bytes ++ codes "(bad)"

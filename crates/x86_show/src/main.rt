@@ -2,11 +2,13 @@
 //! with hexadecimal numbers, segments, and the targets of branches.
 #![tactic(auto)]
 
+mod laws;
 mod listing;
 mod program;
 #[cfg(test)]
 mod tests;
 mod text;
+mod vectors;
 
 use program::{finish, shown};
 use std::process::ExitCode;
