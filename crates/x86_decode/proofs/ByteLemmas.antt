@@ -1,5 +1,6 @@
 -- The displacement that bytes spell has 32 bits.
-use Rattle.std.proofs.Common.{◌≡◌, ℕ, zero, suc, ◌%◌, ◌^◌, ◌<◌, ◌==◌, if◌then◌else◌, List, [], ◌∷◌, ◌++◌, Option, Some, pos, slice_index, All, sym, ap, subst, arith}
+use Rattle.std.proofs.Common.{◌≡◌, ℕ, zero, suc, ◌%◌, ◌^◌, ◌<◌, ◌==◌, if◌then◌else◌, List, [], ◌∷◌, ◌++◌, Option, Some, pos, slice_index}
+use Rattle.std.proofs.Common.{All, sym, ap, subst, arith}
 use Rattle.std.proofs.lemmas.Bool.{cond_both}
 use Rattle.std.specs.Prelude.{FitsSigned}
 use mir.Val.{bits}
@@ -38,12 +39,15 @@ unfolding int_wrap
 fits w n same = subst (λ k. FitsSigned w (cast_signed w k)) same (SFits-int_wrap w (pos n))
 
 pub disp_fits : (width : ℕ) (l : List ℕ) → Bytes l → FitsSigned w32 (signed_by width l)
-disp_fits width l h = cond_both (width == 1) (cast_signed w8 (from_le_bytes w8 l)) (if width == 4 then cast_signed w32 (from_le_bytes w32 l) else pos 0) (λ k. FitsSigned w32 k)
+disp_fits width l h = cond_both (width == 1) (cast_signed w8 (from_le_bytes w8 l))
+    (if width == 4 then cast_signed w32 (from_le_bytes w32 l) else pos 0) (λ k. FitsSigned w32 k)
     (λ _. let f = (fits w8 (from_le_bytes w8 l) (omega (arith, at l h 0))).sfits in record { sfits = omega (arith, f) })
     (λ _. cond_both (width == 4) (cast_signed w32 (from_le_bytes w32 l)) (pos 0) (λ k. FitsSigned w32 k)
     (λ _. fits w32 (from_le_bytes w32 l) (omega (arith, at l h 0, at l h 1, at l h 2, at l h 3))) (λ _. record { sfits = omega arith }))
 
-pub memory_fits : (p : Prefixes) (m : ℕ) (bytes : List ℕ) (memory : Option Raw) (raw : Raw) → SpellsMemory p m bytes memory → memory ≡ Some raw → Bytes bytes → FitsSigned w32 raw.disp
+pub memory_fits : (p : Prefixes) (m : ℕ) (bytes : List ℕ) (memory : Option Raw) (raw : Raw) → SpellsMemory p m bytes memory →
+    memory ≡ Some raw → Bytes bytes → FitsSigned w32 raw.disp
 memory_fits p m bytes memory raw h e b =
     let r : SpellsRaw p m bytes raw = (subst (SpellsMemory p m bytes) e h).1 in
-    subst (λ x. FitsSigned w32 x) (sym (ap (λ x. x.disp) r.fields)) (disp_fits (displacement_width m r.sib) r.disp (bytes_after (option_bytes r.sib) r.disp (subst Bytes r.spelled b)))
+    subst (λ x. FitsSigned w32 x) (sym (ap (λ x. x.disp) r.fields))
+    (disp_fits (displacement_width m r.sib) r.disp (bytes_after (option_bytes r.sib) r.disp (subst Bytes r.spelled b)))

@@ -24,7 +24,8 @@ Faults rows strict IncompleteDecoder q = LeavesOut rows strict q
 module _ (rows : Rows) (strict : Bool) where
   -- what decides an error is one of its causes
   cause_of : (q : List ℕ) (e : DecodeError) → Decides rows strict q e → Faults rows strict e q
-  cause_of q e (by_bytes (case_1 c)) = cond_both (bars_vex (reading_of c.run)) InvalidPrefixes IncompleteDecoder (λ e. Faults rows strict e q) (λ t. inl (c, t)) (λ t. inl (c, t))
+  cause_of q e (by_bytes (case_1 c)) = cond_both (bars_vex (reading_of c.run)) InvalidPrefixes IncompleteDecoder
+      (λ e. Faults rows strict e q) (λ t. inl (c, t)) (λ t. inl (c, t))
   cause_of q e (by_bytes (case_2 c)) = inl c
   cause_of q e (by_bytes (case_3 BadOpcode c)) = inr c
   cause_of q e (by_bytes (case_3 BadOperand c)) = c
@@ -44,15 +45,32 @@ module _ (rows : Rows) (strict : Bool) where
   decided q IncompleteDecoder (inl c) = subst (λ b. Decides rows strict q (if b then InvalidPrefixes else IncompleteDecoder)) c.1 (by_bytes (case_1 c.0))
   decided q IncompleteDecoder (inr c) = by_bytes (case_3 Incomplete c)
 
-  pub refused_for : (input : List ℕ) (r : Result Instruction DecodeError) (n : ℕ) → IsAnswer rows strict input r n → (e : DecodeError) → e ≢ ExhaustedInput → (r ≡ Err e) ↔ IsDecidedBy rows strict (Faults rows strict e) input
+  pub refused_for : (input : List ℕ) (r : Result Instruction DecodeError) (n : ℕ) → IsAnswer rows strict input r n → (e : DecodeError) →
+      e ≢ ExhaustedInput → (r ≡ Err e) ↔ IsDecidedBy rows strict (Faults rows strict e) input
   refused_for input r n a e d = (
     λ same. let k : IsRefusal rows strict input e n = (refusal_iff rows strict input n e d).1 (rw same at a) in
-        record { beginning = k.beginning; rest = k.rest; begins = k.begins; is = cause_of k.beginning e k.decides; shortest = λ q more f h g. omega (arith, k.shortest q more f h g, k.long); no_sentence = k.no_sentence },
+        record {
+          beginning = k.beginning;
+          rest = k.rest;
+          begins = k.begins;
+          is = cause_of k.beginning e k.decides;
+          shortest = λ q more f h g. omega (arith, k.shortest q more f h g, k.long);
+          no_sentence = k.no_sentence;
+        },
     λ k. (once rows strict input r (Err e) n (length k.beginning) a ((refusal_iff rows strict input (length k.beginning) e d).0
-        (record { beginning = k.beginning; rest = k.rest; begins = k.begins; decides = decided k.beginning e k.is; long = refl; shortest = k.shortest; no_sentence = k.no_sentence }))).0,
+        (record {
+          beginning = k.beginning;
+          rest = k.rest;
+          begins = k.begins;
+          decides = decided k.beginning e k.is;
+          long = refl;
+          shortest = k.shortest;
+          no_sentence = k.no_sentence;
+        }))).0,
   )
 
-  pub exhausted : (input : List ℕ) (r : Result Instruction DecodeError) (n : ℕ) → IsAnswer rows strict input r n → (r ≡ Err ExhaustedInput) ↔ IsUndecided rows strict input
+  pub exhausted : (input : List ℕ) (r : Result Instruction DecodeError) (n : ℕ) → IsAnswer rows strict input r n →
+      (r ≡ Err ExhaustedInput) ↔ IsUndecided rows strict input
   exhausted input (Ok i) n a = (λ e. absurd cc, λ u. absurd (u.no_sentence a.sentence a.rest i a.begins a.is))
   exhausted input (Err ExhaustedInput) n a = (λ e. record { no_sentence = a.no_sentence; undecided = a.undecided }, λ u. refl)
   exhausted input (Err f) n a = (λ e. absurd cc, λ u. absurd (u.undecided a.beginning a.rest f a.begins a.decides))

@@ -17,7 +17,8 @@ use Rattle.x86_decode.proofs.AnswerLemmas.{at_most_fifteen}
 use Rattle.x86_decode.proofs.CauseLemmas.{accepted, exhausted, refused_for}
 use Rattle.x86_decode.proofs.SentenceLemmas.{answer_tied}
 
-pub answers : {rows : Rows} {strict : Bool} {input : List ℕ} {r : Result Instruction DecodeError} {n : ℕ} → IsAnswer rows strict input r n → Answers rows strict input r n
+pub answers : {rows : Rows} {strict : Bool} {input : List ℕ} {r : Result Instruction DecodeError} {n : ℕ} → IsAnswer rows strict input r n →
+    Answers rows strict input r n
 answers {rows} {strict} {input} {r} {n} a = record {
   answer = a;
   at_most_fifteen = at_most_fifteen rows strict input r n a;
@@ -32,7 +33,8 @@ answers {rows} {strict} {input} {r} {n} a = record {
 }
 
 -- the same of the printed rows, whose answers are functions of the bytes
-pub printed_answers : {strict : Bool} {input : List ℕ} {r : Result Instruction DecodeError} → r ≡ answer_of strict input → Answers (rows_of packed) strict input r (count_of strict input)
+pub printed_answers : {strict : Bool} {input : List ℕ} {r : Result Instruction DecodeError} → r ≡ answer_of strict input →
+    Answers (rows_of packed) strict input r (count_of strict input)
 printed_answers {strict} {input} {r} e = answers (printed_answer strict input r e)
 
 -- What the walk over the printed rows has decoded from this state.
@@ -42,7 +44,8 @@ pub record Decoded (strict : Bool) (s after : State ℕ) (r : Result Instruction
   pub count : after.since_mark ≡ count_of strict s.left
   pub moved : HasMoved s after
 
-pub decoded : {strict : Bool} (s : State ℕ) {after : State ℕ} {r : Result Instruction DecodeError} → outcome r after ≡ decode_step (rows_of packed) strict s → Decoded strict s after r
+pub decoded : {strict : Bool} (s : State ℕ) {after : State ℕ} {r : Result Instruction DecodeError} →
+    outcome r after ≡ decode_step (rows_of packed) strict s → Decoded strict s after r
 decoded {strict} s {after} {r} e =
     let a = answered_by (rows_of packed) strict s e in
     let only = only_answer strict s.left r after.since_mark a.0 in

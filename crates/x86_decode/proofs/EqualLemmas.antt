@@ -35,6 +35,19 @@ module _ (same_prefixes : (a b : Prefixes) → (prefixes.ghosts.eq a b ≡ true)
           operands = each_of (operand_at a) (operand_at b) ((slice_eq-Decides same_operands (shown_of a).operands (shown_of b).operands _ refl).0 h4.1);
         },
     λ is.
-        let e : shown_of a ≡ shown_of b = rw (is.slots 0 (omega arith), is.slots 1 (omega arith), is.slots 2 (omega arith), is.slots 3 (omega arith), is.operands 0 (omega arith), is.operands 1 (omega arith), is.operands 2 (omega arith), is.operands 3 (omega arith), is.prefixes, is.opcode, is.count, is.mem_size) refl in
+        let e : shown_of a ≡ shown_of b = rw (
+          is.slots 0 (omega arith),
+          is.slots 1 (omega arith),
+          is.slots 2 (omega arith),
+          is.slots 3 (omega arith),
+          is.operands 0 (omega arith),
+          is.operands 1 (omega arith),
+          is.operands 2 (omega arith),
+          is.operands 3 (omega arith),
+          is.prefixes,
+          is.opcode,
+          is.count,
+          is.mem_size,
+        ) refl in
         ap (λ z. shown.ghosts.eq (shown_of a) z) (sym e) ∙ shown_laws.laws-law.refl (shown_of a),
   )

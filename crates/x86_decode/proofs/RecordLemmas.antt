@@ -33,12 +33,14 @@ use Rattle.x86_decode.proofs.PrintedLemmas.{printed_answer}
 module _ (plain : (row : TableRow) (p : Prefixes) (m : ℕ) → ((form_record row p).plan m).size ≤ 64)
     (group : (strict : Bool) (row : TableRow) (p : Prefixes) (m : ℕ) → ((group_record strict row p).plan m).size ≤ 64) where
   -- an instruction has the size of its plan
-  pub answer_small : (rows : Rows) (strict : Bool) (input : List ℕ) (a : Instruction) (n : ℕ) → IsAnswer rows strict input (Ok a) n → a.operand_list.mem_size < 65
+  pub answer_small : (rows : Rows) (strict : Bool) (input : List ℕ) (a : Instruction) (n : ℕ) → IsAnswer rows strict input (Ok a) n →
+      a.operand_list.mem_size < 65
   answer_small rows strict input a n h =
       let row = h.is.whole.row in
       let p : Prefixes = seen_by h.is.whole.map h.is.whole.opcode (reading_of h.is.whole.run) in
       let m = modrm_of (record_of strict row p).modrm h.is.whole.row_spelled.modrm in
-      let small = cond_both (is_group row.form) (group_record strict row p) (form_record row p) (λ r. (r.plan m).size ≤ 64) (λ _. group strict row p m) (λ _. plain row p m) in
+      let small = cond_both (is_group row.form) (group_record strict row p) (form_record row p) (λ r. (r.plan m).size ≤ 64)
+      (λ _. group strict row p m) (λ _. plain row p m) in
       omega (arith, ap (λ i. i.operand_list.mem_size) h.is.yields, ap (λ x. x.mem_size) h.is.whole.row_spelled.tail_spelled.yields, small)
 
   pub printed_small : (strict : Bool) (xs : List ℕ) (i : Instruction) → answer_of strict xs ≡ Ok i → i.operand_list.mem_size < 65
@@ -81,16 +83,23 @@ printed_at printed m column byte row e = rw (sym (printed m column byte) ∙ e) 
 
 -- ---- records that are left out, by the laws on what is built
 
-module _ (plain : (row : TableRow) (p : Prefixes) (m : ℕ) (w : Moment) → is_group row.form ≡ false → ((form_record row p).plan m).verdict ≢ Refuses Incomplete w)
+module _ (plain : (row : TableRow) (p : Prefixes) (m : ℕ) (w : Moment) → is_group row.form ≡ false →
+    ((form_record row p).plan m).verdict ≢ Refuses Incomplete w)
     (passes : (row : TableRow) (p : Prefixes) → (form_record row p).at_opcode ≡ None)
     (group_passes : (strict : Bool) (row : TableRow) (p : Prefixes) → (group_record strict row p).at_opcode ≢ Some Incomplete)
-    (group : (strict : Bool) (row : TableRow) (p : Prefixes) (m : ℕ) (w : Moment) → is_group row.form ≡ true → ((group_record strict row p).plan m).verdict ≡ Refuses Incomplete w → row.form ≡ form.ModRM_0x8f) where
-  gap_of_8f : (strict : Bool) (row : TableRow) (p : Prefixes) (m : ℕ) (w : Moment) → ((record_of strict row p).plan m).verdict ≡ Refuses Incomplete w → row.form ≡ form.ModRM_0x8f
-  gap_of_8f strict row p m w = cond_both (is_group row.form) (group_record strict row p) (form_record row p) (λ r. (r.plan m).verdict ≡ Refuses Incomplete w → row.form ≡ form.ModRM_0x8f)
+    (group : (strict : Bool) (row : TableRow) (p : Prefixes) (m : ℕ) (w : Moment) → is_group row.form ≡ true →
+    ((group_record strict row p).plan m).verdict ≡ Refuses Incomplete w → row.form ≡ form.ModRM_0x8f) where
+  gap_of_8f : (strict : Bool) (row : TableRow) (p : Prefixes) (m : ℕ) (w : Moment) →
+      ((record_of strict row p).plan m).verdict ≡ Refuses Incomplete w → row.form ≡ form.ModRM_0x8f
+  gap_of_8f strict row p m w = cond_both (is_group row.form) (group_record strict row p) (form_record row p)
+      (λ r. (r.plan m).verdict ≡ Refuses Incomplete w → row.form ≡ form.ModRM_0x8f)
       (λ is. group strict row p m w is) (λ is e. absurd (plain row p m w is e))
 
-  row_of_8f : (strict : Bool) (row : TableRow) (p : Prefixes) (bytes : List ℕ) → RefusesRow (record_of strict row p) p bytes Incomplete → row.form ≡ form.ModRM_0x8f
-  row_of_8f strict row p bytes (at_opcode e _) = absurd (cond_both (is_group row.form) (group_record strict row p) (form_record row p) (λ r. r.at_opcode ≢ Some Incomplete) (λ _. group_passes strict row p) (λ _ e. let none = passes row p in cc) e)
+  row_of_8f : (strict : Bool) (row : TableRow) (p : Prefixes) (bytes : List ℕ) → RefusesRow (record_of strict row p) p bytes Incomplete →
+      row.form ≡ form.ModRM_0x8f
+  row_of_8f strict row p bytes (at_opcode e _) = absurd
+      (cond_both (is_group row.form) (group_record strict row p) (form_record row p) (λ r. r.at_opcode ≢ Some Incomplete)
+      (λ _. group_passes strict row p) (λ _ e. let none = passes row p in cc) e)
   row_of_8f strict row p bytes (past_opcode _ _ _ _ _ (at_modrm e _)) = gap_of_8f strict row p _ _ e
   row_of_8f strict row p bytes (past_opcode _ _ _ _ _ (after_address _ e _)) = gap_of_8f strict row p _ _ e
   row_of_8f strict row p bytes (past_opcode _ _ _ _ _ (after_suffix e _)) = gap_of_8f strict row p _ _ e
@@ -99,9 +108,11 @@ module _ (plain : (row : TableRow) (p : Prefixes) (m : ℕ) (w : Moment) → is_
   pub left_out_is_8f : (rows : Rows) (strict : Bool) (q : List ℕ) (c : IsRefusedByRecord rows strict q Incomplete) → c.row.form ≡ form.ModRM_0x8f
   left_out_is_8f rows strict q c = row_of_8f strict c.row (seen_by c.map c.opcode (reading_of c.run)) c.tail c.refuses
 
-  pub left_out_at_8f : PrintedRows → (strict : Bool) (q : List ℕ) (c : IsRefusedByRecord (rows_of packed) strict q Incomplete) → (c.map ≡ One) × (c.opcode ≡ 0x8f)
+  pub left_out_at_8f : PrintedRows → (strict : Bool) (q : List ℕ) (c : IsRefusedByRecord (rows_of packed) strict q Incomplete) →
+      (c.map ≡ One) × (c.opcode ≡ 0x8f)
   left_out_at_8f printed strict q c =
-      place_8f c.map c.opcode (rw (left_out_is_8f (rows_of packed) strict q c) at (printed_at printed c.map (column_of (reading_of c.run)) c.opcode c.row c.has_row))
+      place_8f c.map c.opcode (rw (left_out_is_8f (rows_of packed) strict q c) at
+      (printed_at printed c.map (column_of (reading_of c.run)) c.opcode c.row c.has_row))
 
 pub fence_at_0fae : PrintedRows → (q : List ℕ) (c : IsFence (rows_of packed) q) → (c.map ≡ Of) × (c.opcode ≡ 0xae)
 fence_at_0fae printed q c = place_0fae c.map c.opcode (rw c.names.group at (printed_at printed c.map (column_of (reading_of c.run)) c.opcode c.row c.has_row))

@@ -46,22 +46,27 @@ module _ (r : RowRecord) (p : Prefixes) where
   -- ---- on a prefix of an input on which the row is open it is open at the same place
 
   module _ (s : State ℕ) (opened : (step s).answer ≡ Err ExhaustedInput) (is : IsOpenRow r p s (step s).after) where
-    stays_open : (t : State ℕ) (back : List ℕ) → s.left ≡ t.left ++ back → (a : Result Reading DecodeError) → (step t).answer ≡ a → (step t).answer ≡ Err ExhaustedInput
+    stays_open : (t : State ℕ) (back : List ℕ) → s.left ≡ t.left ++ back → (a : Result Reading DecodeError) → (step t).answer ≡ a →
+        (step t).answer ≡ Err ExhaustedInput
     stays_open t back e (Ok reading) h =
         let read = row_read r p t reading h in
-        let here = ap (λ o. o.answer) (row_wherever r p s read.bytes (read.rest ++ back) reading (beginning_of_more read.bytes read.rest back t.left s.left read.beginning e) read.spelled) in cc
+        let here = ap (λ o. o.answer) (row_wherever r p s read.bytes (read.rest ++ back) reading
+        (beginning_of_more read.bytes read.rest back t.left s.left read.beginning e) read.spelled) in cc
     stays_open t back e (Err ExhaustedInput) h = h
     stays_open t back e (Err d) h =
         let no = row_refused r p t d h (λ same. cc) in
-        let here = ap (λ o. o.answer) (row_refuses r p s no.bytes (no.rest ++ back) no.fault (beginning_of_more no.bytes no.rest back t.left s.left no.beginning e) no.refuses) in
+        let here = ap (λ o. o.answer) (row_refuses r p s no.bytes (no.rest ++ back) no.fault
+        (beginning_of_more no.bytes no.rest back t.left s.left no.beginning e) no.refuses) in
         absurd (fault_error no.fault (cc))
 
     open_on : OutOn step is.bytes is.rest
     open_on beginning back split t left =
-        let e : s.left ≡ t.left ++ back = is.beginning ∙ ap (λ l. is.bytes ++ l) split ∙ sym (append_assoc is.bytes beginning back) ∙ ap (λ l. l ++ back) (sym left) in
+        let e : s.left ≡ t.left ++ back = is.beginning ∙ ap (λ l. is.bytes ++ l) split ∙ sym (append_assoc is.bytes beginning back)
+        ∙ ap (λ l. l ++ back) (sym left) in
         let h : (step t).answer ≡ Err ExhaustedInput = stays_open t back e (step t).answer refl in
         let there = row_open r p t h in
-        let at_most = is.longest there.bytes (there.rest ++ back) (beginning_of_more there.bytes there.rest back t.left s.left there.beginning e) there.between in
+        let at_most = is.longest there.bytes (there.rest ++ back)
+        (beginning_of_more there.bytes there.rest back t.left s.left there.beginning e) there.between in
         let same : length there.bytes ≡ length is.bytes = omega (arith, there.longest is.bytes beginning left is.between, at_most) in
         ap (λ a. outcome a (step t).after) h ∙ ap (outcome (Err ExhaustedInput)) (there.taken ∙ ap (λ n. advanced n t) same)
 
@@ -74,7 +79,9 @@ module _ (r : RowRecord) (p : Prefixes) where
   ends_by s (Err ExhaustedInput) h = let is = row_open r p s h in runs_out is.bytes is.rest is.beginning is.between (open_on s h is)
   ends_by s (Err e) h =
       let is = row_refused r p s e h (λ same. cc) in
-      settles is.bytes is.rest (Err e) is.beginning (subst (λ d. Takes step is.bytes (Err d)) (sym is.named) (takes_row_refused is.bytes is.fault is.refuses)) (final_err e (λ same. cc)) (is.fault, is.named, is.refuses)
+      settles is.bytes is.rest (Err e) is.beginning
+      (subst (λ d. Takes step is.bytes (Err d)) (sym is.named) (takes_row_refused is.bytes is.fault is.refuses))
+      (final_err e (λ same. cc)) (is.fault, is.named, is.refuses)
 
   pub ends_row : EndsWell (RowYields r p) (BetweenRow r p) step
   ends_row s = ends_by s (step s).answer refl
@@ -87,7 +94,8 @@ module _ (r : RowRecord) (p : Prefixes) where
       let answer = ap (λ o. o.answer) (ends rest [] (sym (append-nil rest)) (fresh q) beginning) in
       let is = row_open r p (fresh q) answer in
       let all : length is.bytes ≡ length q = omega (arith, length-append {A = ℕ}, ap length is.beginning, is.longest q [] (sym (append-nil q)) between) in
-      out (λ t left. open_on (fresh q) answer is is.rest [] (sym (append-nil is.rest)) t (left ∙ is.beginning) ∙ ap (λ n. outcome (Err ExhaustedInput) (advanced n t)) all)
+      out (λ t left. open_on (fresh q) answer is is.rest [] (sym (append-nil is.rest)) t (left ∙ is.beginning)
+      ∙ ap (λ n. outcome (Err ExhaustedInput) (advanced n t)) all)
 
   pub halts_row : (q : List ℕ) → BetweenRow r p q → Halts step q
   halts_row q between = halts_by q between (ends_row (fresh q))

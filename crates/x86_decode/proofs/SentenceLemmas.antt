@@ -28,19 +28,27 @@ use Rattle.x86_decode.proofs.TieLemmas.{tied_operands, is_shape}
 use Rattle.x86_decode.proofs.PrintedLemmas.{printed_answer}
 
 pub sentence_tied : (rows : Rows) (strict : Bool) (s : List ℕ) (a : Instruction) → IsSentence rows strict s a → HasTiedOperands a
-sentence_tied rows strict s a is = rw is.yields (tied_operands is.reading (places_of rows strict s is.reading is.whole) (length s) (spelled_tied _ _ is.whole.tail is.reading is.whole.row_spelled))
+sentence_tied rows strict s a is = rw is.yields
+    (tied_operands is.reading (places_of rows strict s is.reading is.whole) (length s) (spelled_tied _ _ is.whole.tail is.reading is.whole.row_spelled))
 
 -- ---- the memory operand of ModRM, by the laws on such operands and on shapes
 
-module _ (shapes : (r : RowRecord) (p : Prefixes) (bytes : List ℕ) (reading : Reading) (row_spelled : SpellsRow r p bytes reading) (raw : Raw) → row_spelled.tail_spelled.pieces.memory ≡ Some raw → (k : ℕ) → names_modrm (encodings_of r p bytes reading row_spelled) k ≡ true → HasShapeAt reading k raw)
-    (rows : Rows) (strict : Bool) (s : List ℕ) (a : Instruction) (is : IsSentence rows strict s a) (raw : Raw) (k : ℕ) (memory : raw_within rows strict s is.reading is.whole ≡ Some raw) (named : names_modrm (encodings_within rows strict s is.reading is.whole) k ≡ true) where
+module _ (shapes : (r : RowRecord) (p : Prefixes) (bytes : List ℕ) (reading : Reading) (row_spelled : SpellsRow r p bytes reading)
+    (raw : Raw) → row_spelled.tail_spelled.pieces.memory ≡ Some raw → (k : ℕ) →
+    names_modrm (encodings_of r p bytes reading row_spelled) k ≡ true → HasShapeAt reading k raw)
+    (rows : Rows) (strict : Bool) (s : List ℕ) (a : Instruction) (is : IsSentence rows strict s a) (raw : Raw) (k : ℕ)
+    (memory : raw_within rows strict s is.reading is.whole ≡ Some raw)
+    (named : names_modrm (encodings_within rows strict s is.reading is.whole) k ≡ true) where
   pub sentence_shape : (slot_at a k ≡ (shape raw).0) × (operand_at a k ≡ (shape raw).1)
   sentence_shape =
-      let here = is_shape is.reading (places_of rows strict s is.reading is.whole) (length s) k raw (shapes _ _ is.whole.tail is.reading is.whole.row_spelled raw memory k named) in
+      let here = is_shape is.reading (places_of rows strict s is.reading is.whole) (length s) k raw
+      (shapes _ _ is.whole.tail is.reading is.whole.row_spelled raw memory k named) in
       (ap (λ i. slot_at i k) is.yields ∙ here.0, ap (λ i. operand_at i k) is.yields ∙ here.1)
 
-  pub sentence_address : ((r : RowRecord) (p : Prefixes) (bytes : List ℕ) (reading : Reading) (row_spelled : SpellsRow r p bytes reading) (raw : Raw) → row_spelled.tail_spelled.pieces.memory ≡ Some raw → raw.address_size ≡ p.address_size) →
-      ((raw : Raw) → FitsSigned w32 raw.disp → operand_form raw.address_size (shape raw).1 ≡ Some (raw_form raw)) → All (λ b. b < 256) s → operand_form (reading_of is.whole.run).address_size (operand_at a k) ≡ Some (raw_form raw)
+  pub sentence_address : ((r : RowRecord) (p : Prefixes) (bytes : List ℕ) (reading : Reading) (row_spelled : SpellsRow r p bytes reading)
+      (raw : Raw) → row_spelled.tail_spelled.pieces.memory ≡ Some raw → raw.address_size ≡ p.address_size) →
+      ((raw : Raw) → FitsSigned w32 raw.disp → operand_form raw.address_size (shape raw).1 ≡ Some (raw_form raw)) → All (λ b. b < 256) s →
+      operand_form (reading_of is.whole.run).address_size (operand_at a k) ≡ Some (raw_form raw)
   sentence_address size form bytes =
       let w = is.whole in
       let r = w.row_spelled in
@@ -49,13 +57,18 @@ module _ (shapes : (r : RowRecord) (p : Prefixes) (bytes : List ℕ) (reading : 
       -- the bytes of SIB and displacement
       let after_run = bytes_after w.run (escape_bytes w.map ++ w.opcode ∷ w.tail) (subst Bytes w.spelled (bytes_of s bytes)) in
       let past_opcode : Bytes r.tail = bytes_after r.modrm r.tail (subst Bytes r.spelled (bytes_after (escape_bytes w.map) (w.opcode ∷ w.tail) after_run).1) in
-      let fits : FitsSigned w32 raw.disp = memory_fits p (modrm_of (record_of strict w.row p).modrm r.modrm) q.address q.memory raw q.address_spelled memory (bytes_before q.address (q.immediates ++ q.suffix) (subst Bytes q.spelled past_opcode)) in
+      let fits : FitsSigned w32 raw.disp = memory_fits p
+      (modrm_of (record_of strict w.row p).modrm r.modrm) q.address q.memory raw q.address_spelled memory
+      (bytes_before q.address (q.immediates ++ q.suffix) (subst Bytes q.spelled past_opcode)) in
       -- clearing 66 leaves 67
-      let seen : p.address_size ≡ (reading_of w.run).address_size = cond_both (clears w.map (column_of (reading_of w.run)) w.opcode) _ _ (λ (q : Prefixes). q.address_size ≡ (reading_of w.run).address_size) (λ _. refl) (λ _. refl) in
+      let seen : p.address_size ≡ (reading_of w.run).address_size =
+      cond_both (clears w.map (column_of (reading_of w.run)) w.opcode) _ _
+      (λ (q : Prefixes). q.address_size ≡ (reading_of w.run).address_size) (λ _. refl) (λ _. refl) in
       rw (sym seen, sym (size (record_of strict w.row p) p w.tail is.reading r raw memory), sentence_shape.1) (form raw fits)
 
 -- an answer has tied operands
-pub answer_tied : (rows : Rows) (strict : Bool) (input : List ℕ) (r : Result Instruction DecodeError) (n : ℕ) → IsAnswer rows strict input r n → IfOk r HasTiedOperands
+pub answer_tied : (rows : Rows) (strict : Bool) (input : List ℕ) (r : Result Instruction DecodeError) (n : ℕ) →
+    IsAnswer rows strict input r n → IfOk r HasTiedOperands
 answer_tied rows strict input (Ok a) n h = sentence_tied rows strict h.sentence a h.is
 answer_tied rows strict input (Err e) n h = tt
 

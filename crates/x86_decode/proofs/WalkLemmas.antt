@@ -1,5 +1,6 @@
 -- What the true reader has taken where the bounded one has ended.
-use Rattle.std.proofs.Common.{◌≡◌, ℕ, List, [], ◌∷◌, get_or, ◌+◌, ◌-◌, ◌≤◌, Bool, true, false, length, drop, Result, Ok, Err, is_ok, refl, sym, ap, ◌∙◌, arith, length-take, length-drop, nat_le}
+use Rattle.std.proofs.Common.{◌≡◌, ℕ, List, [], ◌∷◌, get_or, ◌+◌, ◌-◌, ◌≤◌, Bool, true, false, length, drop, Result, Ok, Err, is_ok, refl}
+use Rattle.std.proofs.Common.{sym, ap, ◌∙◌, arith, length-take, length-drop, nat_le}
 use Rattle.std.proofs.lemmas.Bool.Decides.{nat_tests}
 use Rattle.x86_arch.specs.Reader.{State, advanced}
 use Rattle.x86_fields.specs.declared.errors.DecodeError.{DecodeError}
@@ -28,7 +29,8 @@ module _ (rows : Rows) (strict : Bool) (m t : State ℕ) (a : ℕ) (r : Result P
     pub at : t ≡ advanced t.since_mark m
     pub is : walk_bounded rows strict m ≡ bounded_outcome r t.since_mark m
 
-  pub walked : (u start : State ℕ) → outcome r u ≡ walk_placed rows strict (bounded 15 m) → bounded a t ≡ u → a ≤ 15 → HasAdvanced (15 - a) start t → m ≡ start → m.since_mark ≡ 0 → Walked
+  pub walked : (u start : State ℕ) → outcome r u ≡ walk_placed rows strict (bounded 15 m) → bounded a t ≡ u → a ≤ 15 →
+      HasAdvanced (15 - a) start t → m ≡ start → m.since_mark ≡ 0 → Walked
   walked u start e b few following same zero =
       let o : Outcome Placed = walk_placed rows strict (bounded 15 m) in
       let v : Moves rows strict (bounded 15 m) o = walk_moves rows strict (bounded 15 m) in
@@ -41,7 +43,8 @@ module _ (rows : Rows) (strict : Bool) (m t : State ℕ) (a : ℕ) (r : Result P
       record {
         count = count;
         room = within;
-        at = same_state (following.left ∙ ap (λ x. drop (15 - a) x.left) (sym same) ∙ ap (λ n. drop n m.left) (sym count)) (let h : t.since_mark ≡ m.since_mark + t.since_mark = omega arith in h) (here ∙ ap (λ n. m.since_made + n) (sym count));
+        at = same_state (following.left ∙ ap (λ x. drop (15 - a) x.left) (sym same) ∙ ap (λ n. drop n m.left) (sym count))
+            (let h : t.since_mark ≡ m.since_mark + t.since_mark = omega arith in h) (here ∙ ap (λ n. m.since_made + n) (sym count));
         is = ap (λ x. bounded_outcome x.answer x.after.since_mark m) (sym e) ∙ ap (λ n. bounded_outcome r n m) (sym (ap (λ x. x.since_mark) b));
       }
 
@@ -54,34 +57,44 @@ pub is_judged : (allowed : Bool) → is_ok (judgement allowed) ≡ allowed
 is_judged true = refl
 is_judged false = refl
 
-pub judged_first : (i : Instruction) (j : Result (Unit {0}) DecodeError) → j ≡ judgement (takes_lock i.prefixes i.opcode (get_or i.operand_list.slots 0 Nothing)) → j ≡ judgement (allows_lock (reading_in i))
+pub judged_first : (i : Instruction) (j : Result (Unit {0}) DecodeError) →
+    j ≡ judgement (takes_lock i.prefixes i.opcode (get_or i.operand_list.slots 0 Nothing)) → j ≡ judgement (allows_lock (reading_in i))
 judged_first i j e = e ∙ ap (λ slot. judgement (takes_lock i.prefixes i.opcode slot)) (first_is i.operand_list.slots)
 
 -- no judgement where F0 is absent
 pub unlocked : (i : Instruction) → lock i.prefixes ≡ false → ◌≡◌ {A = Result (Unit {0}) DecodeError} (Ok tt) (judgement (allows_lock (reading_in i)))
 unlocked i absent = rw absent refl
 
-pub ends_judged : (rows : Rows) (strict : Bool) (m t : State ℕ) (a n : ℕ) (i : Instruction) (j : Result (Unit {0}) DecodeError) → Walked rows strict m t a (Ok (placed_in i)) → n ≡ t.since_mark → j ≡ judgement (allows_lock (reading_in i)) → outcome (holding (record i { length = n }) j) t ≡ walk_bounded rows strict m
-ends_judged rows strict m t a n i j w e h = ap (λ k. outcome (holding (record i { length = n }) k) t) h ∙ same ∙ ap (λ k. bounded_outcome (Ok (placed_in i)) k m) e ∙ sym w.is
+pub ends_judged : (rows : Rows) (strict : Bool) (m t : State ℕ) (a n : ℕ) (i : Instruction) (j : Result (Unit {0}) DecodeError) →
+    Walked rows strict m t a (Ok (placed_in i)) → n ≡ t.since_mark → j ≡ judgement (allows_lock (reading_in i)) →
+    outcome (holding (record i { length = n }) j) t ≡ walk_bounded rows strict m
+ends_judged rows strict m t a n i j w e h = ap (λ k. outcome (holding (record i { length = n }) k) t) h ∙ same
+    ∙ ap (λ k. bounded_outcome (Ok (placed_in i)) k m) e ∙ sym w.is
   where
     same : outcome (holding (record i { length = n }) (judgement (allows_lock (reading_in i)))) t ≡ bounded_outcome (Ok (placed_in i)) n m
     same = let at : t ≡ advanced n m = w.at ∙ ap (λ k. advanced k m) (sym e) in grind arith
 
 -- the items still allowed are there exactly where there were fifteen
-there : (rows : Rows) (strict : Bool) (m t : State ℕ) (a : ℕ) (r : Result Placed DecodeError) → Walked rows strict m t a r → a ≤ 15 → nat_le a (length t.left) ≡ nat_le 15 (length m.left)
+there : (rows : Rows) (strict : Bool) (m t : State ℕ) (a : ℕ) (r : Result Placed DecodeError) → Walked rows strict m t a r → a ≤ 15 →
+    nat_le a (length t.left) ≡ nat_le 15 (length m.left)
 there rows strict m t a r w few =
     let room = w.room in
-    let left : length t.left ≡ length m.left - (15 - a) = ap (λ s. length s.left) w.at ∙ length-drop t.since_mark m.left ∙ ap (λ n. length m.left - n) w.count in
+    let left : length t.left ≡ length m.left - (15 - a) = ap (λ s. length s.left) w.at ∙ length-drop t.since_mark m.left
+    ∙ ap (λ n. length m.left - n) w.count in
     grind (arith, nat_tests)
 
-pub ends_refused : (rows : Rows) (strict : Bool) (m t : State ℕ) (a : ℕ) (e : DecodeError) → Walked rows strict m t a (Err e) → a ≤ 15 → limit_step e a t ≡ walk_bounded rows strict m
+pub ends_refused : (rows : Rows) (strict : Bool) (m t : State ℕ) (a : ℕ) (e : DecodeError) → Walked rows strict m t a (Err e) → a ≤ 15 →
+    limit_step e a t ≡ walk_bounded rows strict m
 ends_refused rows strict m t a e w few = by (is_exhausted e) (nat_le 15 (length m.left)) refl refl
   where
     by : (exhausted full : Bool) → is_exhausted e ≡ exhausted → nat_le 15 (length m.left) ≡ full → limit_step e a t ≡ walk_bounded rows strict m
     by false full k h = rw k (ap (λ s. outcome (Err e) s) w.at ∙ sym (w.is ∙ rw k refl))
     by true true k h =
         let all : t.since_mark + a ≡ 15 = let c = w.count in omega arith in
-        rw (k, there rows strict m t a (Err e) w few ∙ h) (ap (λ s. outcome (Err TooLong) s) (ap (advanced a) w.at ∙ advanced_twice t.since_mark a m ∙ ap (λ n. advanced n m) all) ∙ sym (w.is ∙ rw (k, h) refl))
+        rw (k, there rows strict m t a (Err e) w few ∙ h)
+        (ap (λ s. outcome (Err TooLong) s) (ap (advanced a) w.at ∙ advanced_twice t.since_mark a m ∙ ap (λ n. advanced n m) all)
+        ∙ sym (w.is ∙ rw (k, h) refl))
     by true false k h =
         let same : is_exhausted e ≡ true → e ≡ ExhaustedInput = grind arith in
-        rw (k, there rows strict m t a (Err e) w few ∙ h) (ap (λ s. outcome (Err e) s) w.at ∙ ap (λ x. outcome (Err x) (advanced t.since_mark m)) (same k) ∙ sym (w.is ∙ rw (k, h) refl))
+        rw (k, there rows strict m t a (Err e) w few ∙ h)
+        (ap (λ s. outcome (Err e) s) w.at ∙ ap (λ x. outcome (Err x) (advanced t.since_mark m)) (same k) ∙ sym (w.is ∙ rw (k, h) refl))

@@ -1,5 +1,6 @@
 -- The escape, the opcode byte and the word of its row.
-use Rattle.std.proofs.Common.{◌≡◌, ℕ, ◌<◌, ◌≤◌, ◌==◌, ◌||◌, nat_lt, not, Bool, true, false, get_or, map, replicate, Result, Ok, Err, Option, Some, is_some, refl, sym, ap, ◌∙◌, arith}
+use Rattle.std.proofs.Common.{◌≡◌, ℕ, ◌<◌, ◌≤◌, ◌==◌, ◌||◌, nat_lt, not, Bool, true, false, get_or, map, replicate, Result, Ok, Err, Option}
+use Rattle.std.proofs.Common.{Some, is_some, refl, sym, ap, ◌∙◌, arith}
 use Rattle.std.specs.List.{range_with_len}
 use Rattle.std.proofs.lemmas.Bool.Decides.{nat_tests}
 use Rattle.std.proofs.lemmas.List.{get_or-replicate}
@@ -28,14 +29,16 @@ pub found_vex : (rows : Rows) (p : Prefixes) (b : ℕ) (s : State ℕ) → lead_
 unfolding opcode_step
 found_vex rows p b s h = rw (vex_lead b h) refl
 
-pub found_plain : (rows : Rows) (p : Prefixes) (b : ℕ) (s : State ℕ) → is_plain (lead_of b) ≡ true → outcome (Ok (rows One (column_of p) b, p)) s ≡ read_word rows p b s
+pub found_plain : (rows : Rows) (p : Prefixes) (b : ℕ) (s : State ℕ) → is_plain (lead_of b) ≡ true →
+    outcome (Ok (rows One (column_of p) b, p)) s ≡ read_word rows p b s
 unfolding opcode_step
 found_plain rows p b s h = rw ((plain_lead b h).0, (plain_lead b h).1) refl
 
 pub found_escaped : (rows : Rows) (p : Prefixes) (b : ℕ) (r : Result (Map × ℕ) DecodeError) (s t : State ℕ) → lead_of b ≡ Escape → outcome r t ≡ escape_step s →
     then_from r t (λ o. pure (rows o.0 (column_of p) o.1, seen_by o.0 o.1 p)) ≡ read_word rows p b s
 unfolding opcode_step
-found_escaped rows p b r s t h e = ap (λ q. then_from q.answer q.after (λ o. pure (rows o.0 (column_of p) o.1, seen_by o.0 o.1 p))) e ∙ rw (escape_lead b h) refl
+found_escaped rows p b r s t h e = ap (λ q. then_from q.answer q.after (λ o. pure (rows o.0 (column_of p) o.1, seen_by o.0 o.1 p))) e
+    ∙ rw (escape_lead b h) refl
 
 -- ---- the bytes after 0F
 
@@ -45,7 +48,8 @@ third_byte map = next_byte >>= λ b. pure (map, b)
 pub then_escaped : (r : Result ℕ DecodeError) (s t : State ℕ) → outcome r t ≡ next_byte s → then_from r t (λ d. read_escaped d) ≡ escape_step s
 then_escaped r s t e = ap (λ o. then_from o.answer o.after (λ d. read_escaped d)) e
 
-pub then_third : (map : Map) (d : ℕ) (r : Result ℕ DecodeError) (s t u : State ℕ) → outcome (Ok d) t ≡ next_byte s → ((v : State ℕ) → third_byte map v ≡ read_escaped d v) → outcome r u ≡ next_byte t → then_from r u (λ b. pure (map, b)) ≡ escape_step s
+pub then_third : (map : Map) (d : ℕ) (r : Result ℕ DecodeError) (s t u : State ℕ) → outcome (Ok d) t ≡ next_byte s →
+    ((v : State ℕ) → third_byte map v ≡ read_escaped d v) → outcome r u ≡ next_byte t → then_from r u (λ b. pure (map, b)) ≡ escape_step s
 then_third map d r s t u first is e = ap (λ o. then_from o.answer o.after (λ b. pure (map, b))) e ∙ is t ∙ then_escaped (Ok d) s t first
 
 -- ---- what follows the row of a word
@@ -54,7 +58,9 @@ after_row : Bool → Outcome (Option TableRow × Prefixes) → Outcome Placed
 after_row strict o = then_from o.answer o.after (λ x. some_row x.0 >>= λ row. row_placed strict row x.1)
 
 module _ (rows : Rows) (strict : Bool) (b : ℕ) (p : Prefixes) (s : State ℕ) where
-  row_follows : (r : Result (Map × ℕ) DecodeError) (t : State ℕ) → after_row strict (then_from r t (λ o. pure (rows o.0 (column_of p) o.1, seen_by o.0 o.1 p))) ≡ then_from r t (λ o. some_row (rows o.0 (column_of p) o.1) >>= λ row. row_placed strict row (seen_by o.0 o.1 p))
+  row_follows : (r : Result (Map × ℕ) DecodeError) (t : State ℕ) →
+      after_row strict (then_from r t (λ o. pure (rows o.0 (column_of p) o.1, seen_by o.0 o.1 p))) ≡ then_from r t
+      (λ o. some_row (rows o.0 (column_of p) o.1) >>= λ row. row_placed strict row (seen_by o.0 o.1 p))
   unfolding after_row
   row_follows (Ok o) t = refl
   row_follows (Err e) t = refl
@@ -66,7 +72,8 @@ module _ (rows : Rows) (strict : Bool) (b : ℕ) (p : Prefixes) (s : State ℕ) 
   unfolding after_row
   refused_after e t h = ap (after_row strict) h ∙ body
 
-  pub row_after : (q : Prefixes) (word : ℕ) (o : Option TableRow) (t : State ℕ) → found_word q word t ≡ read_word rows p b s → unpack word ≡ o → (some_row o >>= λ row. row_placed strict row q) t ≡ body_placed rows strict p b s
+  pub row_after : (q : Prefixes) (word : ℕ) (o : Option TableRow) (t : State ℕ) → found_word q word t ≡ read_word rows p b s →
+      unpack word ≡ o → (some_row o >>= λ row. row_placed strict row q) t ≡ body_placed rows strict p b s
   unfolding after_row
   row_after q word o t h is = ap (λ o. (some_row o >>= λ row. row_placed strict row q) t) (sym is) ∙ ap (after_row strict) h ∙ body
 
@@ -74,7 +81,8 @@ module _ (rows : Rows) (strict : Bool) (b : ℕ) (p : Prefixes) (s : State ℕ) 
     -- what follows the run is the walk after its head
     pub within : body_placed rows strict p b s ≡ walk_placed rows strict start
     unfolding walk_placed
-    within = ap (λ q. body_placed rows strict q b s) head.1 ∙ ap (λ o. then_from o.answer o.after (λ h. body_placed rows strict h.0 h.1)) (at_other head.0 b s plain ∙ head.2)
+    within = ap (λ q. body_placed rows strict q b s) head.1
+        ∙ ap (λ o. then_from o.answer o.after (λ h. body_placed rows strict h.0 h.1)) (at_other head.0 b s plain ∙ head.2)
 
 -- ---- a printed row is at an opcode byte
 
@@ -98,7 +106,8 @@ opcode_at m b row is = by (nat_lt b 256) refl
     by : (t : Bool) → nat_lt b 256 ≡ t → is_opcode m b ≡ true
     by true k =
         let fits : b < 256 = grind (arith, nat_tests) in
-        let holds : at_opcode m b ≡ true = sym (get_or-map-range_with_len (at_opcode m) 0 256 b b true fits (omega arith)) ∙ ap (λ l. get_or l b true) (at_opcodes m) ∙ get_or-replicate 256 b true true fits in
+        let holds : at_opcode m b ≡ true = sym (get_or-map-range_with_len (at_opcode m) 0 256 b b true fits (omega arith))
+        ∙ ap (λ l. get_or l b true) (at_opcodes m) ∙ get_or-replicate 256 b true true fits in
         sym (ap (λ o. not (is_some o) || is_opcode m b) (sym (row_of_printed_word m Plain b) ∙ is)) ∙ holds
     by false k = above m b (grind (arith, nat_tests))
 
@@ -113,20 +122,24 @@ of_is_escaped o s h = grind (arith, nat_tests)
 
 -- ---- no legacy prefix, and an opcode byte that follows nothing or 0F
 
-module _ (strict : Bool) (start now : State ℕ) (b : ℕ) (p : Prefixes) (head : Headed b p now (head_step start)) (plain : column_of p ≡ Plain) (row : TableRow) where
+module _ (strict : Bool) (start now : State ℕ) (b : ℕ) (p : Prefixes) (head : Headed b p now (head_step start))
+    (plain : column_of p ≡ Plain) (row : TableRow) where
   pub without_escape : unpack (packed One Plain b) ≡ Some row → row_placed strict row p now ≡ walk_placed (rows_of packed) strict start
   without_escape is =
       let opcode = opcode_at One b row is in
-      let found : found_word p (packed One Plain b) now ≡ read_word (rows_of packed) p b now = ap (λ c. found_word p (packed One c b) now) (sym plain) ∙ found_plain (rows_of packed) p b now (one_is_plain b opcode) in
+      let found : found_word p (packed One Plain b) now ≡ read_word (rows_of packed) p b now =
+      ap (λ c. found_word p (packed One c b) now) (sym plain) ∙ found_plain (rows_of packed) p b now (one_is_plain b opcode) in
       row_after (rows_of packed) strict b p now p (packed One Plain b) (Some row) now found is
       ∙ within (rows_of packed) strict b p now start head (one_is_other b opcode)
 
-  pub after_escape : (o : ℕ) (after : State ℕ) → (b == 0x0f) ≡ true → outcome (Ok o) after ≡ next_byte now → unpack (packed Of Plain o) ≡ Some row → row_placed strict row p after ≡ walk_placed (rows_of packed) strict start
+  pub after_escape : (o : ℕ) (after : State ℕ) → (b == 0x0f) ≡ true → outcome (Ok o) after ≡ next_byte now →
+      unpack (packed Of Plain o) ≡ Some row → row_placed strict row p after ≡ walk_placed (rows_of packed) strict start
   after_escape o after escape taken is =
       let opcode = opcode_at Of o row is in
       let lead : lead_of b ≡ Escape = grind (arith, nat_tests) in
       let other : is_prefix b ≡ false = grind (arith, nat_tests) in
       let escaped : outcome (Ok (Of, o)) after ≡ escape_step now = sym (of_is_escaped o after opcode) ∙ then_escaped (Ok o) now after taken in
-      let found : found_word p (packed Of Plain o) after ≡ read_word (rows_of packed) p b now = ap (λ c. found_word p (packed Of c o) after) (sym plain) ∙ found_escaped (rows_of packed) p b (Ok (Of, o)) now after lead escaped in
+      let found : found_word p (packed Of Plain o) after ≡ read_word (rows_of packed) p b now =
+      ap (λ c. found_word p (packed Of c o) after) (sym plain) ∙ found_escaped (rows_of packed) p b (Ok (Of, o)) now after lead escaped in
       row_after (rows_of packed) strict b p now p (packed Of Plain o) (Some row) after found is
       ∙ within (rows_of packed) strict b p now start head other

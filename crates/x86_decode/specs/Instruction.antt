@@ -1,5 +1,6 @@
 -- Instructions: what a reading holds, with the length of its encoding.
-use Rattle.std.specs.Prelude.{◌≡◌, ℕ, ◌<◌, ◌==◌, ◌&&◌, ◌||◌, not, Bool, true, false, if◌then◌else◌, Option, Some, None, List, [], ◌∷◌, take, Result, Ok, Err}
+use Rattle.std.specs.Prelude.{◌≡◌, ℕ, ◌<◌, min, ◌==◌, ◌&&◌, ◌||◌, not, Bool, true, false, if◌then◌else◌, Option, Some, None, List, [], ◌∷◌}
+use Rattle.std.specs.Prelude.{take, Result, Ok, Err}
 use Rattle.x86_regs.specs.declared.Segment.{Segment}
 use Rattle.x86_regs.specs.declared.Segment.TheVariants.{DS, ES}
 use Rattle.x86_opcodes.specs.Names.{Invalid, MOVS, CMPS, XCHG, MOV}
@@ -56,8 +57,9 @@ holding inst (Err e) = Err e
 abbrev pub opcode : Instruction → ℕ
 opcode i = i.opcode
 
+-- how many operands there are, of the four for which there is room
 abbrev pub operand_count : Instruction → ℕ
-operand_count i = i.operand_list.count
+operand_count i = min i.operand_list.count 4
 
 -- how many bytes the encoding has
 abbrev pub length_of : Instruction → ℕ
@@ -120,7 +122,8 @@ abbrev pub xacquire : Instruction → Bool
 xacquire i = repnz i.prefixes && (lock i.prefixes || exchanges_memory i)
 
 abbrev pub xrelease : Instruction → Bool
-xrelease i = rep i.prefixes && (lock i.prefixes || (exchanges_memory i || ((i.opcode == MOV) && (not (is_rm_slot (slot_at i 0)) && is_release_slot (slot_at i 1)))))
+xrelease i = rep i.prefixes && (lock i.prefixes ||
+    (exchanges_memory i || ((i.opcode == MOV) && (not (is_rm_slot (slot_at i 0)) && is_release_slot (slot_at i 1)))))
 
 -- what equality looks at: all but the length and the places, and of slots and operands those below the count
 abbrev pub shown_of : Instruction → Shown

@@ -1,6 +1,6 @@
 //! The five calls that decode, and the short walk over a slice.
 
-ghost use Rattle.std.specs.Prelude.{◌≡◌, Bool, true, false, IfOk, OnErr};
+ghost use Rattle.std.specs.Prelude.{◌≡◌, ℕ, Bool, List, take, true, false, IfOk, OnErr};
 ghost use Rattle.std.proofs.Common.{rules};
 ghost use Rattle.std.specs.Cmp.{partial_order_from_own_ties};
 ghost use Rattle.std.specs.Cmp.Rules.{comparing};
@@ -11,10 +11,10 @@ ghost use Rattle.x86_decode.specs.Decoder.{is_strict};
 ghost use Rattle.x86_decode.specs.Answer.{answer_of, count_of};
 ghost use Rattle.x86_decode.specs.Answers.{Answers, HasMoved};
 ghost use Rattle.x86_decode.specs.Instruction.{holding, invalid_instruction};
-ghost use Rattle.x86_decode.specs.Walk.{rest_step, walk_placed};
+ghost use Rattle.x86_decode.specs.Walk.{unread_step, walk_placed};
 
 use crate::instructions::Instruction;
-use crate::rows::{Rest, read_by_line};
+use crate::rows::{Unread, read_row};
 use crate::walk::{walk, walk_into, walk_rarely};
 use std::cmp::Ordering;
 use x86_arch::{ReadIf, Reader, U8Reader};
@@ -36,14 +36,17 @@ fn make_invalid(inst: &mut Instruction)
     *inst = Instruction::INVALID;
 }
 
-/// The encoding by the line of its row, where it has no legacy prefix and its opcode byte follows nothing or 0F; else
-/// what is left of the row, or an error. An error says only that this walk can't go on: a legacy prefix and the beginning
-/// of a longer escape have no row.
+/// The encoding where it has no legacy prefix, its opcode byte follows nothing or 0F, and its row is read at once; else the
+/// row, or an error. An error says only that this walk can't go on: a legacy prefix and the beginning of a longer escape
+/// have no row.
 #[inline(always)]
-fn read_plain<T: ReadIf>(reader: &mut T, inst: &mut Instruction) -> Result<Rest, DecodeError>
+fn read_plain<T: ReadIf>(
+    reader: &mut T,
+    inst: &mut Instruction,
+) -> Result<Option<Unread>, DecodeError>
     requires { inst.old ≡ invalid_instruction }
-    ensures read { IfOk result (λ rest. (strict : Bool) →
-        rest_step strict inst.new rest (T.state reader.new)
+    ensures read { IfOk result (λ unread. (strict : Bool) →
+        unread_step strict inst.new unread (T.state reader.new)
         ≡ walk_placed (rows_of packed) strict (T.state reader.old)) }
     ensures no_lock { lock inst.new.prefixes ≡ false }
 {
@@ -59,31 +62,51 @@ fn read_plain<T: ReadIf>(reader: &mut T, inst: &mut Instruction) -> Result<Rest,
     };
     match word_row(word) {
         None => Err(DecodeError::InvalidOpcode),
-        Some(found) => read_by_line(&found, reader, inst),
+        Some(found) => read_row(&found, reader, inst),
     }
 }
 
-/// The walk within the first fifteen bytes of a slice, into a blank instruction.
+/// The walk over the first fifteen bytes of an input, or over all where there are fewer, into a blank instruction.
 ///
-/// Most encodings have no legacy prefix, and their opcode byte follows nothing or 0F. Where fifteen bytes are there,
-/// `read_plain` is tried first on these fifteen: their number is a constant, and no such encoding has more, so no read
-/// tests for an end. Whatever it refuses is walked from the beginning.
+/// Most encodings have no legacy prefix, and their opcode byte follows nothing or 0F: `read_plain` reads these. Whatever it
+/// refuses is walked from the beginning.
+#[inline(always)]
+fn walk_beginning(strict: bool, within: &[u8], inst: &mut Instruction) -> Result<(), DecodeError>
+    requires { inst.old ≡ invalid_instruction }
+    ensures { (bytes : List ℕ) → within.now ≡ take 15 bytes →
+        holding inst.new result ≡ answer_of strict bytes }
+{
+    let mut reader = U8Reader::new(within);
+    if let Ok(None) = read_plain(&mut reader, inst) {
+        inst.length = reader.offset();
+        return Ok(());
+    }
+    make_invalid(inst);
+    walk_rarely(strict, within, inst)
+}
+
+/// The same as a call, for inputs of fewer bytes, where each read tests for the end.
+#[inline(never)]
+fn walk_short(strict: bool, within: &[u8], inst: &mut Instruction) -> Result<(), DecodeError>
+    requires { inst.old ≡ invalid_instruction }
+    ensures { (bytes : List ℕ) → within.now ≡ take 15 bytes →
+        holding inst.new result ≡ answer_of strict bytes }
+{
+    walk_beginning(strict, within, inst)
+}
+
+/// The walk over a slice, into a blank instruction. Where fifteen bytes are there their number is a constant, and no
+/// encoding has more: so no read of the short walk tests for an end.
 #[inline(always)]
 fn walk_slice(strict: bool, bytes: &[u8], inst: &mut Instruction) -> Result<(), DecodeError>
     requires { inst.old ≡ invalid_instruction }
     ensures { holding inst.new result ≡ answer_of strict bytes.now }
 {
     if bytes.len() < 15 {
-        return walk_rarely(strict, bytes, inst);
+        walk_short(strict, bytes, inst)
+    } else {
+        walk_beginning(strict, &bytes[..15], inst)
     }
-    let within = &bytes[..15];
-    let mut reader = U8Reader::new(within);
-    if let Ok(Rest::Nothing) = read_plain(&mut reader, inst) {
-        inst.length = reader.offset();
-        return Ok(());
-    }
-    make_invalid(inst);
-    walk_rarely(strict, within, inst)
 }
 
 impl InstDecoder {

@@ -1,5 +1,5 @@
 //! Instructions and their accessors.
-ghost use Rattle.std.specs.Prelude.{◌≡◌, ◌<◌, true, nat_lt};
+ghost use Rattle.std.specs.Prelude.{◌≡◌, ◌≤◌, true, nat_lt};
 ghost use Rattle.std.specs.Cmp.{on_equiv, on_per};
 ghost use Rattle.std.specs.Ordering.{on};
 ghost use Rattle.x86_decode.specs.contracts.instructions.ShownPartialEq.TheImpl.Laws as shown_eq;
@@ -91,9 +91,10 @@ impl Instruction {
 
     /// How many operands there are: at most 4.
     pub fn operand_count(&self) -> u8
-        ensures { result ≡ operand_count self.now }
+        ensures count { result ≡ operand_count self.now }
+        ensures few { result ≤ 4 }
     {
-        self.operand_list.count
+        self.operand_list.count.min(4)
     }
 
     /// The operands in order.
@@ -101,21 +102,18 @@ impl Instruction {
     pub fn operands(&self) -> &[Operand]
         ensures { result.now ≡ operands_of self.now }
     {
-        let count = self.operand_list.count.min(4);
-        &self.operand_list.operands[..count as usize]
+        &self.operand_list.operands[..self.operand_count() as usize]
     }
 
     /// Whether there is an operand at an index, counted from 0.
     pub fn operand_present(&self, i: u8) -> bool
-        requires { i < 4 }
         ensures { result ≡ nat_lt i (operand_count self.now) }
     {
-        i < self.operand_list.count
+        i < self.operand_count()
     }
 
     /// The operand at an index, counted from 0; at the count and above it `Operand::Nothing`.
     pub fn operand(&self, i: u8) -> Operand
-        requires { i < 4 }
         ensures { result ≡ operand_at self.now i }
     {
         self.operand_list.operand(i)
@@ -123,7 +121,6 @@ impl Instruction {
 
     /// Where in the encoding the operand at an index comes from; at the count and above it `Slot::Nothing`.
     pub fn slot(&self, i: u8) -> Slot
-        requires { i < 4 }
         ensures { result ≡ slot_at self.now i }
     {
         self.operand_list.slot(i)
@@ -136,7 +133,6 @@ impl Instruction {
         i: u8,
         visitor: &mut T,
     ) -> Result<T::Ok, T::Error>
-        requires { i < 4 }
         ensures { T.answers (visit_of (operand_at self.now i)) visitor.old visitor.new result }
     {
         self.operand(i).visit(visitor)
@@ -162,9 +158,8 @@ impl Instruction {
     ///
     /// MOVS writes to ES and reads from the segment of the prefixes. CMPS names rdi first, which here takes the
     /// segment of the prefixes, and then rsi, which takes ES. Of another operation a memory operand is in the segment
-    /// of the prefixes, and `None` means DS.
+    /// of the prefixes, and `None` means the default one: SS where the base is rbp or rsp, ES of what INS writes, else DS.
     pub fn segment_override_for_op(&self, op: u8) -> Option<Segment>
-        requires { op < 4 }
         ensures { result ≡ segment_override_for_op self.now op }
     {
         let segment = self.prefixes.segment();
@@ -194,14 +189,17 @@ impl Instruction {
         self.opcode == Opcode::XCHG && !is_rm_slot(self.slot(0)) && !is_rm_slot(self.slot(1))
     }
 
-    /// Whether F2 is a hint that the operation begins a critical section (Intel SDM volume 2, XACQUIRE/XRELEASE).
+    /// Whether F2 is there with F0, or before an XCHG with memory. On a processor it is then a hint that the operation begins
+    /// a critical section, if it is one that takes the hint (Intel SDM volume 2, XACQUIRE/XRELEASE): CMPXCHG16B isn't.
     pub fn xacquire(&self) -> bool
         ensures { result ≡ xacquire self.now }
     {
         self.prefixes.repnz() && (self.prefixes.lock() || self.exchanges_memory())
     }
 
-    /// Whether F3 is a hint that the operation ends a critical section (Intel SDM volume 2, XACQUIRE/XRELEASE).
+    /// Whether F3 is there with F0, before an XCHG with memory, or before a MOV of a register of reg or of a signed immediate.
+    /// On a processor it is then a hint that the operation ends a critical section, if it is one that takes the hint (Intel
+    /// SDM volume 2, XACQUIRE/XRELEASE): CMPXCHG16B isn't, nor is `f3 b8`.
     pub fn xrelease(&self) -> bool
         ensures { result ≡ xrelease self.now }
     {

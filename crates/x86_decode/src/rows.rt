@@ -1,162 +1,131 @@
 //! What a row has after its opcode byte, written where it stays.
-ghost use Rattle.std.specs.Prelude.{◌≡◌, ℕ, Bool, IfOk, true, false};
-ghost use Rattle.x86_arch.specs.Reader.{State};
+
+ghost use Rattle.std.specs.Prelude.{◌≡◌, ◌≢◌, ℕ, Bool, IfOk, IfSome, false};
+ghost use Rattle.x86_fields.specs.ModRM.{is_memory};
 ghost use Rattle.x86_fields.specs.Steps.{outcome, then_from};
-ghost use Rattle.x86_operands.specs.Encodings.{has_fields};
 ghost use Rattle.x86_operands.specs.OperandList.{value_if_ok, no_operands};
-ghost use Rattle.x86_decode.specs.declared.rows.Rest.TheVariants as Rest;
-ghost use Rattle.x86_decode.specs.declared.instructions.Instruction.{Instruction};
-ghost use Rattle.x86_decode.specs.Walk.{IsFound, IsLineOf, found_row_step, placed_in, rest_step, row_from, row_placed, is_nothing};
+ghost use Rattle.x86_operands.specs.Places.{plan_placed};
+ghost use Rattle.x86_operands.specs.Plans.{RowRecord};
+ghost use Rattle.x86_operands.specs.PlanSteps.{read_modrm};
+ghost use Rattle.x86_operands.specs.declared.heads.After.TheVariants as After;
+ghost use Rattle.x86_operands.specs.declared.plans.ModrmUse.TheVariants.{Absent};
+ghost use Rattle.x86_groups.specs.Heads.{Continues, IsSure};
+ghost use Rattle.x86_decode.specs.Walk.{placed_in, plan_at, row_placed, unread_step};
 
 use crate::instructions::Instruction;
 use x86_arch::Reader;
 use x86_fields::{DecodeError, ModRM};
 use x86_forms::{WordRow, unpack};
-use x86_groups::{chosen, read_row_into, row_plan};
-use x86_opcodes::Opcode;
-use x86_operands::{AfterOpcode, FormEncoding, place_of, read_plan_into, word_encoding};
+use x86_groups::{SureRow, read_after_modrm, read_row_into, sure_row, word_after};
+use x86_operands::{After, place_of};
 
-/// What is left of a row that wasn't read at once.
+/// The row of a word that is yet to be read: more than form, mod and reg chooses among the rows of its form, or it is
+/// refused.
 #[derive(Clone, Copy, Drop)]
-pub enum Rest {
-    Nothing,
-    /// All of the row of this word.
-    Row(u64),
-    /// What follows this ModRM byte, in the row of this word.
-    AfterModRM(u64, ModRM),
+pub struct Unread {
+    pub word: u64,
+    /// ModRM, where it was read. One that the row doesn't have is C0.
+    pub modrm: Option<ModRM>,
 }
 
-/// The line of the operand encodings for a row, with the operation, and the ModRM byte; one that isn't there is C0.
-#[derive(Clone, Copy, Drop)]
-struct RowLine<'a> {
-    opcode: Opcode,
-    encoding: &'a FormEncoding,
+/// ModRM where a form has one, else C0.
+#[inline(always)]
+fn read_modrm<T: Reader<u64, u8>>(after: After, reader: &mut T) -> Result<ModRM, DecodeError>
+    requires { after ≢ After.Search }
+    ensures read { (r : RowRecord) → Continues after r →
+        outcome result (T.state reader.new) ≡ read_modrm r.modrm (T.state reader.old) }
+    ensures absent { (r : RowRecord) → Continues after r → r.modrm ≡ Absent →
+        IfOk result (λ modrm. is_memory modrm ≡ false) }
+{
+    match after {
+        After::Nothing => Ok(ModRM::absent()),
+        _ => Ok(ModRM::new(reader.next()?)),
+    }
+}
+
+/// The operands of a row that is read at once.
+#[inline(always)]
+fn read_operands<T: Reader<u64, u8>>(
+    found: &WordRow,
+    sure: SureRow<'_>,
     modrm: ModRM,
-}
-
-/// The line of a row after its ModRM byte, if it has one; else what is left of the row.
-#[derive(Clone, Copy, Drop)]
-enum Found<'a> {
-    Line(RowLine<'a>),
-    Rest(Rest),
-}
-
-/// The line of a row without ModRM; else all of the row.
-#[inline(always)]
-fn line_without_modrm<'a>(found: &WordRow, encoding: &'a FormEncoding) -> Found<'a>
-    requires line { IsLineOf encoding.now found.now }
-    requires no_modrm { has_fields encoding.now.after_opcode ≡ false }
-    ensures found { IsFound found.now result }
-    ensures read { (strict : Bool) (i : Instruction) (s : State ℕ) →
-        found_row_step strict found.now.row i result s
-        ≡ row_from i.places.opcode_end strict found.now.row i.prefixes s }
-{
-    let modrm = ModRM::absent();
-    if encoding.after_opcode.allows(modrm) {
-        Found::Line(RowLine {
-            encoding,
-            opcode: found.row.opcode,
-            modrm,
-        })
-    } else {
-        Found::Rest(Rest::Row(found.word))
-    }
-}
-
-/// ModRM, and the line that describes the row there; else what is left of the row.
-#[inline(always)]
-fn read_line<'a, T: Reader<u64, u8>>(
-    found: &WordRow,
-    reader: &mut T,
-) -> Result<Found<'a>, DecodeError>
-    ensures read { (strict : Bool) (i : Instruction) →
-        then_from result (T.state reader.new) (found_row_step strict found.now.row i) ≡
-        row_from i.places.opcode_end strict found.now.row i.prefixes (T.state reader.old) }
-    ensures found { IfOk result (IsFound found.now) }
-{
-    let encoding = word_encoding(found);
-    let has_fields = matches!(
-        encoding.after_opcode,
-        AfterOpcode::EitherForm
-            | AfterOpcode::Memory
-            | AfterOpcode::Registers
-            | AfterOpcode::ByReg(_)
-    );
-    if !has_fields {
-        return Ok(line_without_modrm(found, encoding));
-    }
-    let modrm = ModRM::new(reader.next()?);
-    let (opcode, encoding) = match encoding.after_opcode {
-        AfterOpcode::ByReg(group) => chosen(group, modrm),
-        _ => (found.row.opcode, encoding),
-    };
-    let accepts = match encoding.after_opcode {
-        AfterOpcode::EitherForm => true,
-        other => other.allows(modrm),
-    };
-    if accepts {
-        Ok(Found::Line(RowLine {
-            encoding,
-            opcode,
-            modrm,
-        }))
-    } else {
-        Ok(Found::Rest(Rest::AfterModRM(found.word, modrm)))
-    }
-}
-
-/// What the row of a word has after its opcode byte, if a line of the operand encodings describes it.
-#[inline(always)]
-pub fn read_by_line<T: Reader<u64, u8>>(
-    found: &WordRow,
     reader: &mut T,
     inst: &mut Instruction,
-) -> Result<Rest, DecodeError>
+) -> Result<(), DecodeError>
+    requires sure { IsSure found.now modrm sure }
     requires blank { inst.old.operand_list ≡ no_operands }
     requires no_suffix { inst.old.places.has_suffix ≡ false }
     ensures read { (strict : Bool) →
-        then_from result (T.state reader.new) (rest_step strict inst.new) ≡
+        outcome (value_if_ok result (placed_in inst.new)) (T.state reader.new)
+        ≡ plan_placed inst.old.places.opcode_end
+        (plan_at strict found.now.row inst.old.prefixes modrm) inst.old.prefixes modrm
+        (T.state reader.old) }
+    ensures same_prefixes { inst.new.prefixes ≡ inst.old.prefixes }
+{
+    inst.opcode = sure.opcode;
+    inst.operand_list.read(
+        reader,
+        sure.template,
+        sure.opcode,
+        found.number,
+        &inst.prefixes,
+        modrm,
+        &mut inst.places.address_end,
+    )
+}
+
+/// What the row of a word has after its opcode byte, if form, mod and reg alone choose it; else the row.
+#[inline(always)]
+pub fn read_row<T: Reader<u64, u8>>(
+    found: &WordRow,
+    reader: &mut T,
+    inst: &mut Instruction,
+) -> Result<Option<Unread>, DecodeError>
+    requires blank { inst.old.operand_list ≡ no_operands }
+    requires no_suffix { inst.old.places.has_suffix ≡ false }
+    ensures read { (strict : Bool) →
+        then_from result (T.state reader.new) (unread_step strict inst.new) ≡
         row_placed strict found.now.row inst.old.prefixes (T.state reader.old) }
-    ensures blank { IfOk result (λ rest. is_nothing rest ≡ false
-        → inst.new.operand_list ≡ no_operands) }
+    ensures blank { IfOk result (λ unread.
+        IfSome unread (λ _. inst.new.operand_list ≡ no_operands)) }
     ensures same_prefixes { inst.new.prefixes ≡ inst.old.prefixes }
 {
     inst.places.opcode_end = place_of(reader.offset());
-    match read_line(found, reader) {
-        Err(error) => Err(error),
-        Ok(Found::Rest(rest)) => Ok(rest),
-        Ok(Found::Line(line)) => {
-            inst.opcode = line.opcode;
-            inst.operand_list.read(
-                reader,
-                line.encoding,
-                line.opcode,
-                found.number,
-                &inst.prefixes,
-                line.modrm,
-                &mut inst.places.address_end,
-            )?;
-            Ok(Rest::Nothing)
+    let after = word_after(found);
+    if matches!(after, After::Search) {
+        return Ok(Some(Unread {
+            word: found.word,
+            modrm: None,
+        }));
+    }
+    let modrm = read_modrm(after, reader)?;
+    match sure_row(found, modrm) {
+        Some(sure) => {
+            read_operands(found, sure, modrm, reader, inst)?;
+            Ok(None)
         }
+        None => Ok(Some(Unread {
+            word: found.word,
+            modrm: Some(modrm),
+        })),
     }
 }
 
-/// Reads what follows a ModRM byte in the row of a word, by its plan.
-fn read_after_modrm<T: Reader<u64, u8>>(
+/// Reads a row by a search of the rows of its form.
+#[inline(never)]
+pub fn read_unread<T: Reader<u64, u8>>(
     strict: bool,
-    word: u64,
-    modrm: ModRM,
+    unread: Unread,
     reader: &mut T,
     inst: &mut Instruction,
 ) -> Result<(), DecodeError>
     requires { inst.old.operand_list ≡ no_operands }
     ensures { outcome (value_if_ok result (placed_in inst.new)) (T.state reader.new) ≡
-        rest_step strict inst.old (Rest.AfterModRM word modrm) (T.state reader.old) }
+        unread_step strict inst.old (Some unread) (T.state reader.old) }
 {
-    let Some(row) = unpack(word) else {
+    let Some(row) = unpack(unread.word) else {
         return Err(DecodeError::InvalidOpcode);
     };
-    let plan = row_plan(&row, strict, &inst.prefixes, modrm);
     let Instruction {
         prefixes,
         opcode,
@@ -164,36 +133,17 @@ fn read_after_modrm<T: Reader<u64, u8>>(
         operand_list,
         ..
     } = inst;
-    read_plan_into(reader, &plan, modrm, prefixes, opcode, operand_list, places)
-}
-
-/// Reads what is left of a row.
-#[inline(never)]
-pub fn read_rest<T: Reader<u64, u8>>(
-    strict: bool,
-    rest: Rest,
-    reader: &mut T,
-    inst: &mut Instruction,
-) -> Result<(), DecodeError>
-    requires blank { is_nothing rest ≡ false → inst.old.operand_list ≡ no_operands }
-    ensures { outcome (value_if_ok result (placed_in inst.new)) (T.state reader.new) ≡
-        rest_step strict inst.old rest (T.state reader.old) }
-{
-    match rest {
-        Rest::Nothing => Ok(()),
-        Rest::Row(word) => match unpack(word) {
-            None => Err(DecodeError::InvalidOpcode),
-            Some(row) => {
-                let Instruction {
-                    prefixes,
-                    opcode,
-                    places,
-                    operand_list,
-                    ..
-                } = inst;
-                read_row_into(reader, row, strict, prefixes, opcode, operand_list, places)
-            }
-        },
-        Rest::AfterModRM(word, modrm) => read_after_modrm(strict, word, modrm, reader, inst),
+    match unread.modrm {
+        None => read_row_into(reader, row, strict, prefixes, opcode, operand_list, places),
+        Some(modrm) => read_after_modrm(
+            reader,
+            &row,
+            strict,
+            modrm,
+            prefixes,
+            opcode,
+            operand_list,
+            places,
+        ),
     }
 }

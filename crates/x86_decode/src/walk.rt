@@ -1,5 +1,5 @@
 //! The walk over the bytes of an encoding, within fifteen of them.
-ghost use Rattle.std.specs.Prelude.{◌≡◌, ◌≤◌, ℕ, Bool, List, IfOk, Err, false, take};
+ghost use Rattle.std.specs.Prelude.{◌≡◌, ◌≤◌, ℕ, Bool, List, IfOk, IfSome, Err, false, take};
 ghost use Rattle.x86_arch.specs.Reader.{marked};
 ghost use Rattle.x86_fields.specs.Steps.{outcome, then_from};
 ghost use Rattle.x86_forms.specs.Words.{rows_of};
@@ -7,12 +7,12 @@ ghost use Rattle.x86_operands.specs.OperandList.{value_if_ok, no_operands};
 ghost use Rattle.x86_decode.specs.Answer.{answer_of};
 ghost use Rattle.x86_decode.specs.Grammar.{allows_lock};
 ghost use Rattle.x86_decode.specs.Instruction.{holding, invalid_instruction};
-ghost use Rattle.x86_decode.specs.Walk.{body_placed, is_nothing, limit_step, placed_in, rest_step, walk_bounded, walk_placed, decode_step, takes_lock, judgement, error_at_limit};
+ghost use Rattle.x86_decode.specs.Walk.{body_placed, limit_step, placed_in, unread_step, walk_bounded, walk_placed, decode_step, takes_lock, judgement, error_at_limit};
 
 use crate::bounded::{Bounded, Start, takes_rest};
 use crate::head::{read_on, read_word};
 use crate::instructions::Instruction;
-use crate::rows::{Rest, read_by_line, read_rest};
+use crate::rows::{Unread, read_row, read_unread};
 use std::marker::{Brand, PhantomData};
 use x86_arch::{Reader, U8Reader};
 use x86_fields::{DecodeError, Prefixes};
@@ -39,50 +39,49 @@ fn judgement(prefixes: &Prefixes, opcode: Opcode, first: Slot) -> Result<(), Dec
     }
 }
 
-/// Reads what follows the prefixes, by the line of its row; `byte` is the first byte after them. Else it returns what is
-/// left of the row.
+/// Reads what follows the prefixes, where its row is read at once; `byte` is the first byte after them.
 #[inline(always)]
 fn read_body<W: Words, T: Reader<u64, u8>>(
     rows: &W,
     reader: &mut T,
     inst: &mut Instruction,
     byte: u8,
-) -> Result<Rest, DecodeError>
+) -> Result<Option<Unread>, DecodeError>
     requires blank { inst.old.operand_list ≡ no_operands }
     requires no_suffix { inst.old.places.has_suffix ≡ false }
-    ensures blank { IfOk result (λ rest. is_nothing rest ≡ false
-        → inst.new.operand_list ≡ no_operands) }
+    ensures blank { IfOk result (λ unread.
+        IfSome unread (λ _. inst.new.operand_list ≡ no_operands)) }
     ensures read { (strict : Bool) →
-        then_from result (T.state reader.new) (rest_step strict inst.new) ≡ body_placed
+        then_from result (T.state reader.new) (unread_step strict inst.new) ≡ body_placed
         (rows_of (W.word rows.now)) strict inst.old.prefixes byte (T.state reader.old) }
 {
     let word = read_word(rows, reader, &mut inst.prefixes, byte)?;
     match word_row(word) {
         None => Err(DecodeError::InvalidOpcode),
-        Some(found) => read_by_line(&found, reader, inst),
+        Some(found) => read_row(&found, reader, inst),
     }
 }
 
-/// The encoding by the line of its row, into a blank instruction; else what is left of the row.
+/// The encoding, into a blank instruction, where its row is read at once.
 #[inline(always)]
 fn read_encoding<W: Words, T: Reader<u64, u8>>(
     rows: &W,
     reader: &mut T,
     inst: &mut Instruction,
-) -> Result<Rest, DecodeError>
+) -> Result<Option<Unread>, DecodeError>
     requires { inst.old ≡ invalid_instruction }
-    ensures blank { IfOk result (λ rest. is_nothing rest ≡ false
-        → inst.new.operand_list ≡ no_operands) }
+    ensures blank { IfOk result (λ unread.
+        IfSome unread (λ _. inst.new.operand_list ≡ no_operands)) }
     ensures read { (strict : Bool) →
-        then_from result (T.state reader.new) (rest_step strict inst.new)
+        then_from result (T.state reader.new) (unread_step strict inst.new)
         ≡ walk_placed (rows_of (W.word rows.now)) strict (T.state reader.old) }
 {
     let byte = read_on(reader, &mut inst.prefixes)?;
     read_body(rows, reader, inst, byte)
 }
 
-/// The encoding up to its last byte, into a blank instruction. The reader comes back: so it stays in registers where a
-/// line describes the row.
+/// The encoding up to its last byte, into a blank instruction. The reader comes back: so it stays in registers where the
+/// row is read at once.
 #[inline(always)]
 fn walk_within<W: Words, T: Reader<u64, u8>>(
     strict: bool,
@@ -97,26 +96,35 @@ fn walk_within<W: Words, T: Reader<u64, u8>>(
     let mut reader = reader;
     match read_encoding(rows, &mut reader, inst) {
         Err(error) => (Err(error), reader),
-        Ok(Rest::Nothing) => (Ok(()), reader),
-        Ok(rest) => {
+        Ok(None) => (Ok(()), reader),
+        Ok(Some(unread)) => {
             let mut moved = reader;
-            let read = read_rest(strict, rest, &mut moved, inst);
+            let read = read_unread(strict, unread, &mut moved, inst);
             (read, moved)
         }
     }
 }
 
-/// The error of a walk that may take `allowed` more items. Where the walk met its limit, and not the end of the input, it
-/// takes these items, and the error is `TooLong`.
+/// The refusal of a walk that saw at most fifteen bytes. Where all fifteen were there (`full`), one that needs more is
+/// `TooLong`.
+fn error_at_limit(error: DecodeError, full: bool) -> DecodeError
+    ensures { result ≡ error_at_limit error full }
+{
+    match error {
+        DecodeError::ExhaustedInput if full => DecodeError::TooLong,
+        other => other,
+    }
+}
+
+/// The refusal of a walk that may take `allowed` more items. Where it met its limit, and not the end of the input, it takes
+/// these items.
 fn error_within<T: Reader<u64, u8>>(error: DecodeError, reader: &mut T, allowed: u8) -> DecodeError
     requires { allowed ≤ 15 }
     ensures { outcome (Err result) (T.state reader.new)
         ≡ limit_step error allowed (T.state reader.old) }
 {
-    match error {
-        DecodeError::ExhaustedInput if takes_rest(reader, allowed) => DecodeError::TooLong,
-        other => other,
-    }
+    let full = matches!(error, DecodeError::ExhaustedInput) && takes_rest(reader, allowed);
+    error_at_limit(error, full)
 }
 
 /// The walk within fifteen items. The reference comes back.
@@ -152,17 +160,6 @@ fn walk_bounded<'a, W: Words, T: Reader<u64, u8>, K: Start>(
             reader,
         ),
         Err(error) => (Err(error_within(error, reader, allowed)), reader),
-    }
-}
-
-/// The refusal of a walk that saw at most fifteen bytes. Where all fifteen were there (`full`), one that needs more is
-/// `TooLong`.
-fn error_at_limit(error: DecodeError, full: bool) -> DecodeError
-    ensures { result ≡ error_at_limit error full }
-{
-    match error {
-        DecodeError::ExhaustedInput if full => DecodeError::TooLong,
-        other => other,
     }
 }
 

@@ -1,6 +1,7 @@
 -- A step settles on a prefix of what is left, or runs out after one; what is known of either is put together along
 -- the steps.
-use Rattle.std.proofs.Common.{◌≡◌, ◌≢◌, ◌⊎◌, inl, inr, true, nat_lt, length-take, ℕ, ◌+◌, ◌<◌, ◌≤◌, true, List, [], ◌∷◌, ◌++◌, length, take, drop, Result, Ok, Err, refl, sym, ap, subst, ◌∙◌, arith, length-append, append_assoc}
+use Rattle.std.proofs.Common.{◌≡◌, ◌≢◌, ◌⊎◌, inl, inr, true, nat_lt, length-take, ℕ, ◌+◌, ◌<◌, ◌≤◌, true, List, [], ◌∷◌, ◌++◌, length, take}
+use Rattle.std.proofs.Common.{drop, Result, Ok, Err, refl, sym, ap, subst, ◌∙◌, arith, length-append, append_assoc}
 use Rattle.std.proofs.lemmas.Bool.{cases_lt, lt-ltb}
 use Rattle.std.proofs.Math.Seq.{drop-append_seam, take-append_seam}
 use Rattle.std.proofs.lemmas.List.{append-nil, take-append-drop, take-append-le}
@@ -47,14 +48,16 @@ abbrev pub Only : {X : Type 0} → (List ℕ → X → Type 0) → List ℕ → 
 Only P q (Ok x) = P q x
 Only P q (Err e) = ⊥
 
-pub weaken : {X : Type 0} {A C : List ℕ → Result X DecodeError → Type 0} {B D : List ℕ → Type 0} {f : Step X} (s : State ℕ) → ((q : List ℕ) (r : Result X DecodeError) → A q r → C q r) → ((q : List ℕ) → B q → D q) → Ends A B f s → Ends C D f s
+pub weaken : {X : Type 0} {A C : List ℕ → Result X DecodeError → Type 0} {B D : List ℕ → Type 0} {f : Step X} (s : State ℕ) →
+    ((q : List ℕ) (r : Result X DecodeError) → A q r → C q r) → ((q : List ℕ) → B q → D q) → Ends A B f s → Ends C D f s
 weaken s a b (settles q rest r h t d k) = settles q rest r h t d (a q r k)
 weaken s a b (runs_out q rest h k u) = runs_out q rest h (b q k) u
 
 pub ends_pure : {X : Type 0} (A : List ℕ → Result X DecodeError → Type 0) (B : List ℕ → Type 0) (x : X) → A [] (Ok x) → EndsWell A B (pure x)
 ends_pure A B x a s = settles [] s.left (Ok x) refl (takes_pure (Ok x)) (final_ok x) a
 
-pub ends_refuse : {X : Type 0} (A : List ℕ → Result X DecodeError → Type 0) (B : List ℕ → Type 0) (e : DecodeError) → e ≢ ExhaustedInput → A [] (Err e) → EndsWell A B (refuse e)
+pub ends_refuse : {X : Type 0} (A : List ℕ → Result X DecodeError → Type 0) (B : List ℕ → Type 0) (e : DecodeError) → e ≢ ExhaustedInput →
+    A [] (Err e) → EndsWell A B (refuse e)
 ends_refuse A B e d a s = settles [] s.left (Err e) refl (takes_pure (Err e)) (final_err e d) a
 
 pub no_beginning : (beginning back : List ℕ) → ◌≡◌ {A = List ℕ} [] (beginning ++ back) → beginning ≡ []
@@ -88,14 +91,17 @@ ends_bytes_at n s (inl less) = runs_out [] s.left refl refl (λ beginning back h
 ends_bytes_at n s (inr enough) =
     let long : length (take n s.left) ≡ n = length-take n s.left ∙ omega arith in
     let P : ℕ → Type 0 = λ m. Takes (next_bytes m) (take n s.left) (Ok (take n s.left)) in
-    settles (take n s.left) (drop n s.left) (Ok (take n s.left)) (sym (take-append-drop n s.left)) (subst P long (takes_bytes (take n s.left))) (final_ok (take n s.left)) (refl, long)
+    settles (take n s.left) (drop n s.left) (Ok (take n s.left)) (sym (take-append-drop n s.left))
+    (subst P long (takes_bytes (take n s.left))) (final_ok (take n s.left)) (refl, long)
 
 pub ends_bytes : (n : ℕ) → EndsWell (Only (AreBytes n)) IsEmpty (next_bytes n)
 ends_bytes n s = ends_bytes_at n s (cases_lt (length s.left) n)
 
 -- ---- a sequence of two steps
 
-ends_ok : {X Y : Type 0} (A : List ℕ → Result Y DecodeError → Type 0) (B : List ℕ → Type 0) (m : Step X) (f : X → Step Y) (s : State ℕ) (q rest : List ℕ) (x : X) → s.left ≡ q ++ rest → Takes m q (Ok x) → Ends (λ p r. A (q ++ p) r) (λ p. B (q ++ p)) (f x) (advanced (length q) s) → Ends A B (m >>= f) s
+ends_ok : {X Y : Type 0} (A : List ℕ → Result Y DecodeError → Type 0) (B : List ℕ → Type 0) (m : Step X) (f : X → Step Y) (s : State ℕ)
+    (q rest : List ℕ) (x : X) → s.left ≡ q ++ rest → Takes m q (Ok x) →
+    Ends (λ p r. A (q ++ p) r) (λ p. B (q ++ p)) (f x) (advanced (length q) s) → Ends A B (m >>= f) s
 ends_ok A B m f s q rest x h t (settles p more r e u d a) =
     let after : rest ≡ p ++ more = sym (ap (drop (length q)) h ∙ drop-append_seam q rest) ∙ e in
     settles (q ++ p) more r (h ∙ ap (λ l. q ++ l) after ∙ sym (append_assoc q p more)) (takes_bind m f q p x r t u) d a
@@ -104,29 +110,34 @@ ends_ok A B m f s q rest x h t (runs_out p more e b u) =
     runs_out (q ++ p) more (h ∙ ap (λ l. q ++ l) after ∙ sym (append_assoc q p more)) b (λ beginning back part w left.
     bound m f q p beginning x (Err ExhaustedInput) t (u beginning back part) w (left ∙ append_assoc q p beginning))
 
-ends_at : {X Y : Type 0} (A₁ : List ℕ → Result X DecodeError → Type 0) (B₁ : List ℕ → Type 0) (A : List ℕ → Result Y DecodeError → Type 0) (B : List ℕ → Type 0) (m : Step X) (f : X → Step Y) (s : State ℕ)
+ends_at : {X Y : Type 0} (A₁ : List ℕ → Result X DecodeError → Type 0) (B₁ : List ℕ → Type 0) (A : List ℕ → Result Y DecodeError → Type 0)
+    (B : List ℕ → Type 0) (m : Step X) (f : X → Step Y) (s : State ℕ)
     → ((q : List ℕ) → B₁ q → B q) → ((q : List ℕ) (e : DecodeError) → A₁ q (Err e) → A q (Err e))
     → ((q : List ℕ) (x : X) → A₁ q (Ok x) → EndsWell (λ p r. A (q ++ p) r) (λ p. B (q ++ p)) (f x))
     → Ends A₁ B₁ m s → Ends A B (m >>= f) s
 ends_at A₁ B₁ A B m f s outs errs each (settles q rest (Ok x) h t d a) = ends_ok A B m f s q rest x h t (each q x a (advanced (length q) s))
 ends_at A₁ B₁ A B m f s outs errs each (settles q rest (Err e) h t d a) = settles q rest (Err e) h (takes_err m f q e t) (final_other e d) (errs q e a)
-ends_at A₁ B₁ A B m f s outs errs each (runs_out q rest h b u) = runs_out q rest h (outs q b) (λ beginning back part t left. ap (λ o. then_from o.answer o.after f) (u beginning back part t left))
+ends_at A₁ B₁ A B m f s outs errs each (runs_out q rest h b u) =
+    runs_out q rest h (outs q b) (λ beginning back part t left. ap (λ o. then_from o.answer o.after f) (u beginning back part t left))
 
-pub ends_bind : {X Y : Type 0} (A₁ : List ℕ → Result X DecodeError → Type 0) (B₁ : List ℕ → Type 0) (A : List ℕ → Result Y DecodeError → Type 0) (B : List ℕ → Type 0) (m : Step X) (f : X → Step Y)
+pub ends_bind : {X Y : Type 0} (A₁ : List ℕ → Result X DecodeError → Type 0) (B₁ : List ℕ → Type 0)
+    (A : List ℕ → Result Y DecodeError → Type 0) (B : List ℕ → Type 0) (m : Step X) (f : X → Step Y)
     → EndsWell A₁ B₁ m → ((q : List ℕ) → B₁ q → B q) → ((q : List ℕ) (e : DecodeError) → A₁ q (Err e) → A q (Err e))
     → ((q : List ℕ) (x : X) → A₁ q (Ok x) → EndsWell (λ p r. A (q ++ p) r) (λ p. B (q ++ p)) (f x))
     → EndsWell A B (m >>= f)
 ends_bind A₁ B₁ A B m f first outs errs each s = ends_at A₁ B₁ A B m f s outs errs each (first s)
 
 -- where the first step only yields values
-pub ends_then : {X Y : Type 0} (P : List ℕ → X → Type 0) (B₁ : List ℕ → Type 0) (A : List ℕ → Result Y DecodeError → Type 0) (B : List ℕ → Type 0) (m : Step X) (f : X → Step Y)
+pub ends_then : {X Y : Type 0} (P : List ℕ → X → Type 0) (B₁ : List ℕ → Type 0) (A : List ℕ → Result Y DecodeError → Type 0)
+    (B : List ℕ → Type 0) (m : Step X) (f : X → Step Y)
     → EndsWell (Only P) B₁ m → ((q : List ℕ) → B₁ q → B q)
     → ((q : List ℕ) (x : X) → P q x → EndsWell (λ p r. A (q ++ p) r) (λ p. B (q ++ p)) (f x))
     → EndsWell A B (m >>= f)
 ends_then P B₁ A B m f first outs each = ends_bind (Only P) B₁ A B m f first outs (λ q e h. absurd h) each
 
 -- a value that is made of another one
-pub ends_map : {X Y : Type 0} (P : List ℕ → X → Type 0) (B : List ℕ → Type 0) (Q : List ℕ → Y → Type 0) (m : Step X) (g : X → Y) → EndsWell (Only P) B m → ((q : List ℕ) (x : X) → P q x → Q q (g x)) → EndsWell (Only Q) B (m >>= λ x. pure (g x))
+pub ends_map : {X Y : Type 0} (P : List ℕ → X → Type 0) (B : List ℕ → Type 0) (Q : List ℕ → Y → Type 0) (m : Step X) (g : X → Y) →
+    EndsWell (Only P) B m → ((q : List ℕ) (x : X) → P q x → Q q (g x)) → EndsWell (Only Q) B (m >>= λ x. pure (g x))
 ends_map P B Q m g first each = ends_then P B (Only Q) B m (λ x. pure (g x)) first (λ q b. b)
     (λ q x p. ends_pure (λ p r. Only Q (q ++ p) r) (λ p. B (q ++ p)) (g x) (subst (λ l. Q l (g x)) (sym (append-nil q)) (each q x p)))
 
@@ -165,7 +176,8 @@ pub halts_same : {X : Type 0} (f g : Step X) (q : List ℕ) → ((s : State ℕ)
 halts_same f g q e (out u) = out (λ s h. e s ∙ u s h)
 halts_same f g q e (over p rest r h t d) = over p rest r h (record { takes = λ more s k. e s ∙ t.takes more s k }) d
 
-assoc_at : {X Y Z : Type 0} (a : Result X DecodeError) (u : State ℕ) (f : X → Step Y) (g : Y → Step Z) → then_from (then_from a u f).answer (then_from a u f).after g ≡ then_from a u (λ x. f x >>= g)
+assoc_at : {X Y Z : Type 0} (a : Result X DecodeError) (u : State ℕ) (f : X → Step Y) (g : Y → Step Z) →
+    then_from (then_from a u f).answer (then_from a u f).after g ≡ then_from a u (λ x. f x >>= g)
 assoc_at (Ok x) u f g = refl
 assoc_at (Err e) u f g = refl
 
@@ -179,7 +191,8 @@ longer f q rest p more u h less st =
     let beginning : List ℕ = drop (length q) p in
     let begins : take (length q) p ≡ q = sym (take-append-le (length q) p more (omega arith)) ∙ ap (take (length q)) (sym h) ∙ take-append_seam q rest in
     let whole : p ≡ q ++ beginning = sym (take-append-drop (length q) p) ∙ ap (λ l. l ++ beginning) begins in
-    let following : rest ≡ beginning ++ more = sym (drop-append_seam q rest) ∙ ap (drop (length q)) (h ∙ ap (λ l. l ++ more) whole ∙ append_assoc q beginning more) ∙ drop-append_seam q (beginning ++ more) in
+    let following : rest ≡ beginning ++ more = sym (drop-append_seam q rest)
+    ∙ ap (drop (length q)) (h ∙ ap (λ l. l ++ more) whole ∙ append_assoc q beginning more) ∙ drop-append_seam q (beginning ++ more) in
     at st (u beginning more following (fresh p) whole)
   where
     at : Halts f p → f (fresh p) ≡ outcome (Err ExhaustedInput) (advanced (length q) (fresh p)) → length p ≤ length q

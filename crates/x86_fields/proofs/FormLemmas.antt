@@ -1,5 +1,6 @@
 -- Two address forms are equal where their values agree.
-use Rattle.std.proofs.Common.{◌⊎◌, inl, inr, ◌≡◌, ◌≢◌, ℕ, zero, suc, ◌+◌, ◌-◌, ◌*◌, ◌%◌, ◌<◌, ◌≤◌, ◌^◌, ◌==◌, nat_le, nat_lt, Bool, true, false, ◌&&◌, if◌then◌else◌, List, [], ◌∷◌, refl, sym, ap, ◌∙◌, arith, Option, Some, None, ℤ, pos, negsuc}
+use Rattle.std.proofs.Common.{◌⊎◌, inl, inr, ◌≡◌, ◌≢◌, ℕ, zero, suc, ◌+◌, ◌-◌, ◌*◌, ◌%◌, ◌<◌, ◌≤◌, ◌^◌, ◌==◌, nat_le, nat_lt, Bool, true}
+use Rattle.std.proofs.Common.{false, ◌&&◌, if◌then◌else◌, List, [], ◌∷◌, refl, sym, ap, ◌∙◌, arith, Option, Some, None, ℤ, pos, negsuc}
 use Rattle.std.specs.Prelude.{slice_index, slice_set, FitsSigned}
 use Rattle.std.specs.List.{list_all}
 use Rattle.std.specs.Int.{w32, sum_through}
@@ -10,7 +11,8 @@ use Rattle.std.proofs.Math.Nat.{mod-eq_of_lt, add-mod_right}
 use Rattle.x86_regs.specs.declared.RegSpec.{RegSpec}
 use Rattle.x86_fields.specs.declared.raw.Raw.{Raw}
 use Rattle.x86_fields.specs.Address.{base_of, index_of, scale_by}
-use Rattle.x86_fields.specs.Linear.{Linear, linear, raw_form, modulus_by, constant_by, adds_to, adds_next, value_at, IsSameAddress, IsReduced, IsRegFile, zero_file, unit_file, AgreeEverywhere, AgreeAtUnits}
+use Rattle.x86_fields.specs.Linear.{Linear, linear, raw_form, modulus_by, constant_by, adds_to, adds_next, value_at, IsSameAddress}
+use Rattle.x86_fields.specs.Linear.{IsReduced, IsRegFile, zero_file, unit_file, AgreeEverywhere, AgreeAtUnits}
 use Rattle.x86_fields.proofs.LinearLemmas.{sum_none, sum_one}
 
 -- ---- sums
@@ -27,7 +29,8 @@ times_none c x e = ap (λ y. c * y) e ∙ omega arith
 
 sum_at_zero : (c : ℕ → ℕ) → sum_through (λ r. c r * slice_index zero_file r) 15 ≡ 0
 sum_at_zero c =
-    sum_same (λ r. c r * slice_index zero_file r) (λ r. 0 * c r) 15 (λ r h. times_none (c r) (slice_index zero_file r) (get_or-replicate 16 r 0 0 (omega arith)))
+    sum_same (λ r. c r * slice_index zero_file r) (λ r. 0 * c r) 15
+    (λ r h. times_none (c r) (slice_index zero_file r) (get_or-replicate 16 r 0 0 (omega arith)))
     ∙ sum_none c 15
 
 at_unit : (b : Bool) (c k r : ℕ) → (k == r) ≡ b → k < 16 → r < 16 → c * slice_index (unit_file k) r ≡ (if b then 1 else 0) * c
@@ -98,7 +101,8 @@ module _ (f g : Linear) (same : f.modulus ≡ g.modulus) (f_small : IsReduced f)
   pub units_show : AgreeAtUnits f g → IsSameAddress f g
   units_show agree = record {
     modulus = same;
-    registers = λ r h. terms agree (f.registers r) (g.registers r) (f_small.registers r h) (g_small.registers r h) (sym (value_at_unit f r h) ∙ agree.units r h ∙ value_at_unit g r h);
+    registers = λ r h. terms agree (f.registers r) (g.registers r) (f_small.registers r h) (g_small.registers r h)
+        (sym (value_at_unit f r h) ∙ agree.units r h ∙ value_at_unit g r h);
     next = terms agree f.next g.next f_small.next g_small.next (sym (value_at_next f) ∙ agree.next ∙ value_at_next g);
     constant = constants agree;
   }
@@ -108,7 +112,8 @@ module _ (f g : Linear) (same : f.modulus ≡ g.modulus) (f_small : IsReduced f)
 all_set : (p : ℕ → Bool) (xs : List ℕ) (k a : ℕ) → p a ≡ true → list_all p xs ≡ true → list_all p (slice_set xs k a) ≡ true
 all_set p [] k a here all = refl
 all_set p (x ∷ xs) zero a here all = ap (λ b. b && list_all p xs) here ∙ (and_parts (p x) (list_all p xs) all).1
-all_set p (x ∷ xs) (suc k) a here all = ap (λ b. b && list_all p (slice_set xs k a)) (and_parts (p x) (list_all p xs) all).0 ∙ all_set p xs k a here (and_parts (p x) (list_all p xs) all).1
+all_set p (x ∷ xs) (suc k) a here all = ap (λ b. b && list_all p (slice_set xs k a)) (and_parts (p x) (list_all p xs) all).0
+    ∙ all_set p xs k a here (and_parts (p x) (list_all p xs) all).1
 
 zero_is_file : IsRegFile zero_file
 zero_is_file = record { sixteen = refl; small = refl }
@@ -125,7 +130,9 @@ units_of f g agree = record {
 
 pub same_value : (f g : Linear) → IsSameAddress f g → (regs : List ℕ) (next : ℕ) → value_at f regs next ≡ value_at g regs next
 same_value f g same regs next =
-    ap (λ x. (x + f.next * next + f.constant) % f.modulus) (sum_same (λ r. f.registers r * slice_index regs r) (λ r. g.registers r * slice_index regs r) 15 (λ r h. ap (λ c. c * slice_index regs r) (same.registers r (omega arith))))
+    ap (λ x. (x + f.next * next + f.constant) % f.modulus)
+    (sum_same (λ r. f.registers r * slice_index regs r) (λ r. g.registers r * slice_index regs r) 15
+    (λ r h. ap (λ c. c * slice_index regs r) (same.registers r (omega arith))))
     ∙ ap (λ n. (sum_through (λ r. g.registers r * slice_index regs r) 15 + n * next + f.constant) % f.modulus) same.next
     ∙ ap (λ c. (sum_through (λ r. g.registers r * slice_index regs r) 15 + g.next * next + c) % f.modulus) same.constant
     ∙ ap (λ m. (sum_through (λ r. g.registers r * slice_index regs r) 15 + g.next * next + g.constant) % m) same.modulus

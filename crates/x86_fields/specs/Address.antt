@@ -26,7 +26,8 @@ next_pointer raw = reg_spec 0 (if raw.address_size then EIP else RIP)
 -- Without SIB the base is rm, or the next instruction at mod 00 with rm 101. With SIB it is the base field, or none
 -- at mod 00 with 101.
 abbrev pub base_by : Raw → Option ℕ → Option RegSpec
-base_by raw None = Some (if (mod_field raw.modrm == 0) && (rm_field raw.modrm == 5) then next_pointer raw else address_register raw raw.rex_b (rm_field raw.modrm))
+base_by raw None = Some (if (mod_field raw.modrm == 0) && (rm_field raw.modrm == 5) then next_pointer raw
+    else address_register raw raw.rex_b (rm_field raw.modrm))
 base_by raw (Some sib) = if (mod_field raw.modrm == 0) && (base_field sib == 5) then None else Some (address_register raw raw.rex_b (base_field sib))
 
 abbrev pub base_of : Raw → Option RegSpec

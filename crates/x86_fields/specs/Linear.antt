@@ -1,5 +1,6 @@
 -- Address forms and their values. Source: Intel SDM volume 2, sections 2.1.5 and 2.2.1.6, and volume 1, section 3.7.5.
-use Rattle.std.specs.Prelude.{◌≡◌, ℕ, ◌+◌, ◌*◌, ◌%◌, ◌^◌, ◌<◌, ◌==◌, nat_lt, Bool, true, false, IsTrue, if◌then◌else◌, Option, Some, None, ℤ, List, length, replicate, slice_set, slice_index}
+use Rattle.std.specs.Prelude.{◌≡◌, ℕ, ◌+◌, ◌*◌, ◌%◌, ◌^◌, ◌<◌, ◌==◌, nat_lt, Bool, true, false, IsTrue, if◌then◌else◌, Option, Some, None}
+use Rattle.std.specs.Prelude.{ℤ, List, length, replicate, slice_set, slice_index}
 use Rattle.std.specs.List.{list_all}
 use Rattle.std.specs.Int.{w32, w64, cast_unsigned, sum_through}
 use Rattle.x86_regs.specs.declared.RegisterClass.{RegisterClass}

@@ -2,7 +2,7 @@
 -- 1, section 3.6.1.
 use Rattle.std.specs.Prelude.{ℕ, nat_le, ◌&&◌, ◌||◌, not, if◌then◌else◌, is_some}
 use Rattle.x86_regs.specs.declared.RegisterClass.{RegisterClass}
-use Rattle.x86_regs.specs.declared.RegisterClass.TheVariants.{B, W, D, RB, Q, X, MM}
+use Rattle.x86_regs.specs.declared.RegisterClass.TheVariants.{B, W, D, RB, Q, X, MM, ST}
 use Rattle.x86_regs.specs.declared.RegSpec.{RegSpec}
 use Rattle.x86_regs.specs.Register.{reg_spec}
 use Rattle.x86_fields.specs.declared.prefixes.Prefixes.{Prefixes}
@@ -45,6 +45,7 @@ class_of width.V p = v_class p
 class_of width.Vq p = vq_class p
 class_of width.Vd p = vd_class p
 class_of width.Dq p = dq_class p
+class_of width.St p = ST
 
 -- A byte register below 4 has class B; from 4 on it has class rB with a live REX, else class B.
 abbrev pub byte_reg : Prefixes → ℕ → RegSpec

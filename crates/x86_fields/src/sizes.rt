@@ -37,11 +37,15 @@ pub enum Width {
     Vd,
     /// Q under REX.W, else D.
     Dq,
+    /// A register of the x87 stack. It has no letter.
+    St,
 }
 
 const B: RegisterClass = RegisterClass::B;
 
 const MM: RegisterClass = RegisterClass::MM;
+
+const ST: RegisterClass = RegisterClass::ST;
 
 const W: RegisterClass = RegisterClass::W;
 
@@ -52,7 +56,7 @@ const Q: RegisterClass = RegisterClass::Q;
 const X: RegisterClass = RegisterClass::X;
 
 /// The class of each width. The columns: neither, W, 66, both.
-const CLASSES: &[[RegisterClass; 4]; 10] = &[
+const CLASSES: &[[RegisterClass; 4]; 11] = &[
     [B, B, B, B], // B
     [MM, MM, MM, MM], // Mm
     [W, W, W, W], // W
@@ -63,6 +67,7 @@ const CLASSES: &[[RegisterClass; 4]; 10] = &[
     [Q, Q, W, W], // Vq
     [D, D, W, D], // Vd
     [D, Q, D, Q], // Dq
+    [ST, ST, ST, ST], // St
 ];
 
 impl Width {

@@ -47,7 +47,8 @@ zero_is_first f = refl
 same_variant : (f g : Form) → first_ordinal_of f ≡ first_ordinal_of g → numbered f 0 ≡ numbered g 0
 same_variant f g e =
     let ordinal : ordinal_of (numbered f 0) ≡ ordinal_of (numbered g 0) = zero_is_first f ∙ (e ∙ sym (zero_is_first g)) in
-    let both : Some (numbered f 0) ≡ Some (numbered g 0) = sym (at_ordinal (numbered f 0) (zero_fits f)) ∙ (ap (slice_get FORMS.now) ordinal ∙ at_ordinal (numbered g 0) (zero_fits g)) in
+    let both : Some (numbered f 0) ≡ Some (numbered g 0) = sym (at_ordinal (numbered f 0) (zero_fits f))
+    ∙ (ap (slice_get FORMS.now) ordinal ∙ at_ordinal (numbered g 0) (zero_fits g)) in
     cc
 
 -- equal forms are the same

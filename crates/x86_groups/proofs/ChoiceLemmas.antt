@@ -9,7 +9,8 @@ use Rattle.x86_opcodes.specs.Names.{LFENCE, MFENCE, SFENCE}
 use Rattle.x86_operands.specs.Asks.{ask_of, plan_ask, used_modrm}
 use Rattle.x86_operands.specs.declared.rows.Rm.TheVariants as rms
 use Rattle.x86_operands.specs.Columns.{choose, is_named, is_placed, is_prefixed, is_reg, is_rm, is_there, name_at, plan_of_row}
-use Rattle.x86_groups.specs.Groups.{NamesFence, lfence, mfence, sfence, IsFenceWithRm, group_modrm, group_plan, group_record, operandless, bad_operand, record_of}
+use Rattle.x86_groups.specs.Groups.{NamesFence, lfence, mfence, sfence, IsFenceWithRm, group_modrm, group_plan, group_record, operandless}
+use Rattle.x86_groups.specs.Groups.{bad_operand, record_of}
 use Rattle.x86_groups.specs.Rows.{group_rows}
 use Rattle.x86_operands.proofs.ColumnLemmas.{chosen_alike}
 
@@ -34,7 +35,8 @@ module _ (own : TableRow) (p : Prefixes) (m : ℕ) where
   by_zero : (a b z rest : Bool) → (z || not (a && (b && rest))) ≡ true → (a && (b && (z && rest))) ≡ (a && (b && rest))
   by_zero a b z rest h = grind arith
 
-  rm_same : (r : Rm) (a b rest : Bool) → (not (by_choice r) || ((rm_field m == 0) || not (a && (b && (is_rm r false m && rest))))) ≡ true → (a && (b && (is_rm r true m && rest))) ≡ (a && (b && (is_rm r false m && rest)))
+  rm_same : (r : Rm) (a b rest : Bool) → (not (by_choice r) || ((rm_field m == 0) || not (a && (b && (is_rm r false m && rest))))) ≡ true →
+      (a && (b && (is_rm r true m && rest))) ≡ (a && (b && (is_rm r false m && rest)))
   rm_same rms.ZeroIfStrict a b rest h = by_zero a b (rm_field m == 0) rest h
   rm_same r a b rest h = refl
 
@@ -45,9 +47,19 @@ module _ (own : TableRow) (p : Prefixes) (m : ℕ) where
   unfolding group_rows
   fence_of h =
       let names = fence_named m (reg_field m) refl (grind arith) in
-      record { opcode = names.0; group = refl; no_f2 = grind arith; no_f3 = grind arith; no_66 = grind arith; register = grind arith; named = names.1; other_rm = grind arith }
+      record {
+        opcode = names.0;
+        group = refl;
+        no_f2 = grind arith;
+        no_f3 = grind arith;
+        no_66 = grind arith;
+        register = grind arith;
+        named = names.1;
+        other_rm = grind arith;
+      }
 
-same_or_fence : (f : Form) (own : TableRow) (p : Prefixes) (m : ℕ) → (choose (group_rows f) own true p m ≡ choose (group_rows f) own false p m) ⊎ IsFenceWithRm f p m
+same_or_fence : (f : Form) (own : TableRow) (p : Prefixes) (m : ℕ) →
+    (choose (group_rows f) own true p m ≡ choose (group_rows f) own false p m) ⊎ IsFenceWithRm f p m
 unfolding group_rows
 same_or_fence form.ModRM_0x0fae own p m = elim (cases_Bool (list_all (same_row own p m) (group_rows form.ModRM_0x0fae))) [
   | inl e ↦ inl (chosen_alike (same_row own p m) own true false p p m m (row_same own p m) (group_rows form.ModRM_0x0fae) e)
@@ -86,7 +98,8 @@ module _ (row : TableRow) (p : Prefixes) (m : ℕ) (h : IsFenceWithRm row.form p
   fence_strictly = ap (λ f. plan_of_row (choose (group_rows f) row true p m) row p m) h.group ∙ strictly h.opcode h.named
 
 -- what a group has is the same under both choices
-pub same_ask : (usage : ModrmUse) (at : ℕ) (row : TableRow) (strict : Bool) (p : Prefixes) (m : ℕ) → plan_ask usage at (group_plan row p m strict) ≡ plan_ask usage at (group_plan row p m false)
+pub same_ask : (usage : ModrmUse) (at : ℕ) (row : TableRow) (strict : Bool) (p : Prefixes) (m : ℕ) →
+    plan_ask usage at (group_plan row p m strict) ≡ plan_ask usage at (group_plan row p m false)
 same_ask usage at row false p m = refl
 same_ask usage at row true p m = elim (same_elsewhere row p m) [
   | inl e ↦ ap (plan_ask usage at) e

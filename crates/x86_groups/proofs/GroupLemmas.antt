@@ -75,7 +75,8 @@ eight_f : (f : Form) → is_8f f ≡ true → f ≡ form.ModRM_0x8f
 eight_f form.ModRM_0x8f h = refl
 eight_f _ h = absurd (true≢false (sym h))
 
-pub gap_form : (strict : Bool) (row : TableRow) (p : Prefixes) (m : ℕ) (w : Moment) → is_group row.form ≡ true → ((group_record strict row p).plan m).verdict ≡ Refuses Incomplete w → row.form ≡ form.ModRM_0x8f
+pub gap_form : (strict : Bool) (row : TableRow) (p : Prefixes) (m : ℕ) (w : Moment) → is_group row.form ≡ true →
+    ((group_record strict row p).plan m).verdict ≡ Refuses Incomplete w → row.form ≡ form.ModRM_0x8f
 unfolding group_record
 gap_form strict row p m w group e =
     let h : (not (is_group row.form) || is_8f row.form) ≡ true = waits (may_have_gap row.form) (group_plan row p m strict) w (group_passes row strict p m) e in
@@ -84,23 +85,30 @@ gap_form strict row p m w group e =
 abbrev is_reg_0 : ℕ → Bool
 is_reg_0 reg = reg == 0
 
-gap_8f : (o : TableRow) (strict : Bool) (p : Prefixes) (m : ℕ) (w : Moment) → (plan_of_row (choose (group_rows form.ModRM_0x8f) o strict p m) o p m).verdict ≡ Refuses Incomplete w → (is_reg_0 (reg_field m) ≡ false) × (w ≡ AfterAddress)
+gap_8f : (o : TableRow) (strict : Bool) (p : Prefixes) (m : ℕ) (w : Moment) →
+    (plan_of_row (choose (group_rows form.ModRM_0x8f) o strict p m) o p m).verdict ≡ Refuses Incomplete w → (is_reg_0 (reg_field m) ≡ false)
+    × (w ≡ AfterAddress)
 unfolding group_rows
 gap_8f o strict p m w e = (grind arith, grind arith)
 
-gap_in_8f : (strict : Bool) (row : TableRow) (p : Prefixes) (m : ℕ) (w : Moment) → is_group row.form ≡ true → ((group_record strict row p).plan m).verdict ≡ Refuses Incomplete w → (is_reg_0 (reg_field m) ≡ false) × (w ≡ AfterAddress)
+gap_in_8f : (strict : Bool) (row : TableRow) (p : Prefixes) (m : ℕ) (w : Moment) → is_group row.form ≡ true →
+    ((group_record strict row p).plan m).verdict ≡ Refuses Incomplete w → (is_reg_0 (reg_field m) ≡ false) × (w ≡ AfterAddress)
 unfolding group_record group_plan
 gap_in_8f strict row p m w group e =
-    gap_8f row strict p m w (subst (λ f. (plan_of_row (choose (group_rows f) row strict p m) row p m).verdict ≡ Refuses Incomplete w) (gap_form strict row p m w group e) e)
+    gap_8f row strict p m w (subst (λ f. (plan_of_row (choose (group_rows f) row strict p m) row p m).verdict ≡ Refuses Incomplete w)
+    (gap_form strict row p m w group e) e)
 
-pub gap_reg : (strict : Bool) (row : TableRow) (p : Prefixes) (m : ℕ) (w : Moment) → is_group row.form ≡ true → ((group_record strict row p).plan m).verdict ≡ Refuses Incomplete w → reg_field m ≢ 0
+pub gap_reg : (strict : Bool) (row : TableRow) (p : Prefixes) (m : ℕ) (w : Moment) → is_group row.form ≡ true →
+    ((group_record strict row p).plan m).verdict ≡ Refuses Incomplete w → reg_field m ≢ 0
 gap_reg strict row p m w group e z = absurd (true≢false (sym (ap is_reg_0 z) ∙ (gap_in_8f strict row p m w group e).0))
 
-pub gap_moment : (strict : Bool) (row : TableRow) (p : Prefixes) (m : ℕ) (w : Moment) → is_group row.form ≡ true → ((group_record strict row p).plan m).verdict ≡ Refuses Incomplete w → w ≡ AfterAddress
+pub gap_moment : (strict : Bool) (row : TableRow) (p : Prefixes) (m : ℕ) (w : Moment) → is_group row.form ≡ true →
+    ((group_record strict row p).plan m).verdict ≡ Refuses Incomplete w → w ≡ AfterAddress
 gap_moment strict row p m w group e = (gap_in_8f strict row p m w group e).1
 
 -- a row of a group is left out where it is 8F alone
-pub group_left_out : (strict : Bool) (row : TableRow) (p : Prefixes) (s : State ℕ) → is_group row.form ≡ true → (record_step (group_record strict row p) p s).answer ≡ Err IncompleteDecoder → row.form ≡ form.ModRM_0x8f
+pub group_left_out : (strict : Bool) (row : TableRow) (p : Prefixes) (s : State ℕ) → is_group row.form ≡ true →
+    (record_step (group_record strict row p) p s).answer ≡ Err IncompleteDecoder → row.form ≡ form.ModRM_0x8f
 group_left_out strict row p s group h = by (row_left_out (group_record strict row p) p s h)
   where
     by : HasGap (group_record strict row p) p → row.form ≡ form.ModRM_0x8f

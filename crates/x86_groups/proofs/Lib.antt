@@ -1,4 +1,5 @@
 -- The lemmas on the rows of groups, and on what is read of a group.
 pub mod ChoiceLemmas
 pub mod GroupLemmas
-pub mod LineLemmas
+pub mod HeadLemmas
+pub mod CellLemmas

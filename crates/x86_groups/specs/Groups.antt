@@ -1,19 +1,17 @@
 -- The records of the groups: forms of which ModRM or a suffix chooses the operation. With them every row of the opcode
 -- maps has its record. Source: Intel SDM volume 2, appendix A.4.
-use Rattle.std.specs.Prelude.{ℕ, Bool, true, false, not, ◌&&◌, if◌then◌else◌, Option, Some, None, is_some, ◌≡◌, ◌≢◌, IsTrue}
+use Rattle.std.specs.Prelude.{ℕ, Bool, true, false, not, ◌&&◌, if◌then◌else◌, Option, Some, None, is_some, ◌≡◌, ◌≢◌}
 use Rattle.x86_regs.specs.declared.Segment.{Segment}
-use Rattle.x86_groups.specs.Vocabulary.{Prefixes, Fault, BadOpcode, AtModRM, ModrmUse, EitherForm, Registers, Zero, Plan, Form, TableRow, rep, repnz, reg_field, rm_field, is_memory, operand_size, Reading, RegGroup, FormEncoding, AfterOpcode}
+use Rattle.x86_groups.specs.Vocabulary.{Prefixes, Fault, BadOpcode, AtModRM, ModrmUse, EitherForm, Registers, Zero, Plan, Form, TableRow}
+use Rattle.x86_groups.specs.Vocabulary.{rep, repnz, reg_field, rm_field, is_memory, operand_size}
 use Rattle.x86_fields.specs.Prefixes.{operand_size, address_size, lock, segment, rex}
 use Rattle.x86_forms.specs.Groups.{is_group}
 use Rattle.x86_operands.specs.Plans.{RowRecord, reads, refused}
-use Rattle.x86_operands.specs.Forms.{form_record, group_form, row_with}
+use Rattle.x86_operands.specs.Forms.{form_record}
 use Rattle.x86_forms.specs.declared.Form.TheVariants as form
 use Rattle.x86_operands.specs.Columns.{choose, plan_of_row}
 use Rattle.x86_groups.specs.Rows.{group_rows}
 use Rattle.x86_opcodes.specs.Names.{Invalid, LFENCE, MFENCE, SFENCE}
-use Rattle.x86_fields.specs.Steps.{Step, ◌>>=◌}
-use Rattle.x86_operands.specs.PlanSteps.{read_modrm, read_plan}
-use Rattle.x86_operands.specs.Encodings.{plan_of, is_described}
 
 -- ---- at the opcode, and ModRM
 
@@ -79,24 +77,3 @@ pub record IsFenceWithRm (f : Form) (p : Prefixes) (m : ℕ) : Type 0 where
   pub register : is_memory m ≡ false
   pub named : NamesFence m opcode
   pub other_rm : rm_field m ≢ 0
-
--- ---- groups of which reg alone chooses rows
-
--- the plan of a group, which goes neither by the opcode of the row in the opcode map nor by the choice
-abbrev pub reg_plan : RegGroup → Prefixes → ℕ → Plan
-reg_plan g p m =
-    let own = row_with Invalid (group_form g) in
-    plan_of_row (choose (group_rows (group_form g)) own false p m) own p m
-
--- a line of the table is the plan of the group, unless it leaves it to the rows
-abbrev pub Chooses : RegGroup → ℕ → ℕ → FormEncoding → Type 0
-Chooses g m o e = IsTrue (is_described e.after_opcode) → (n : ℕ) (p : Prefixes) → plan_of e n o p m ≡ reg_plan g p m
-
--- a line of a group has a ModRM byte of either form
-abbrev pub has_either_form : AfterOpcode → Bool
-has_either_form AfterOpcode.EitherForm = true
-has_either_form b = false
-
--- what a group reads after its opcode byte: ModRM, and what its line has there
-abbrev pub reg_step : RegGroup → Prefixes → Step Reading
-reg_step g p = read_modrm EitherForm >>= λ m. read_plan (reg_plan g p m) p m

@@ -5,15 +5,37 @@
 -- after which it comes. Of x86_operands, specs/Words.antt has the words, specs/Columns.antt what they mean, and
 -- specs/PlanSteps.antt what the letters mean.
 use Rattle.std.specs.Prelude.{List, [], ◌∷◌}
-use Rattle.x86_opcodes.specs.Names.{ADC, ADD, AESDEC128KL, AESDEC256KL, AESDECWIDE128KL, AESDECWIDE256KL, AESENC128KL, AESENC256KL, AESENCWIDE128KL, AESENCWIDE256KL, AND, BT, BTC, BTR, BTS, CALL, CALLF, CLAC, CLFLUSH, CLFLUSHOPT, CLGI, CLRSSBSY, CLUI, CLWB, CLZERO, CMP, CMPXCHG16B, CMPXCHG8B, DEC, DIV, ENCLS, ENCLU, ENCLV, ENCODEKEY128, ENCODEKEY256, ENDBR32, ENDBR64, EXTRQ, F2XM1, FABS, FADD, FADDP, FBLD, FBSTP, FCHS, FCMOVB, FCMOVBE, FCMOVE, FCMOVNB, FCMOVNBE, FCMOVNE, FCMOVNU, FCMOVU, FCOM, FCOMI, FCOMIP, FCOMP, FCOMPP, FCOS, FDECSTP, FDISI8087_NOP, FDIV, FDIVP, FDIVR, FDIVRP, FENI8087_NOP, FFREE, FFREEP, FIADD, FICOM, FICOMP, FIDIV, FIDIVR, FILD, FIMUL, FINCSTP, FIST, FISTP, FISTTP, FISUB, FISUBR, FLD, FLD1, FLDCW, FLDENV, FLDL2E, FLDL2T, FLDLG2, FLDLN2, FLDPI, FLDZ, FMUL, FMULP, FNCLEX, FNINIT, FNOP, FNSAVE, FNSTCW, FNSTENV, FNSTSW, FPATAN, FPREM, FPREM1, FPTAN, FRNDINT, FRSTOR, FSCALE, FSETPM287_NOP, FSIN, FSINCOS, FSQRT, FST, FSTP, FSTPNCE, FSUB, FSUBP, FSUBR, FSUBRP, FTST, FUCOM, FUCOMI, FUCOMIP, FUCOMP, FUCOMPP, FXAM, FXCH, FXRSTOR, FXSAVE, FXTRACT, FYL2X, FYL2XP1, HRESET, IDIV, IMUL, INC, INCSSP, INSERTQ, INVLPG, INVLPGA, INVLPGB, JMP, JMPF, LDMXCSR, LFENCE, LGDT, LIDT, LLDT, LMSW, LOADIWKEY, LTR, MFENCE, MONITOR, MONITORX, MOV, MOVHLPS, MOVHPS, MOVLHPS, MOVLPS, MUL, MWAIT, MWAITX, NEG, NOP, NOT, OR, PCONFIG, POP, PREFETCH0, PREFETCH1, PREFETCH2, PREFETCHNTA, PREFETCHW, PSLLD, PSLLDQ, PSLLQ, PSLLW, PSMASH, PSRAD, PSRAW, PSRLD, PSRLDQ, PSRLQ, PSRLW, PTWRITE, PUSH, PVALIDATE, RCL, RCR, RDFSBASE, RDGSBASE, RDPID, RDPKRU, RDPRU, RDRAND, RDSEED, RDTSCP, RMPADJUST, RMPUPDATE, ROL, ROR, RSTORSSP, SAL, SAR, SAVEPREVSSP, SBB, SEAMCALL, SEAMOPS, SEAMRET, SENDUIPI, SETSSBSY, SFENCE, SGDT, SHL, SHR, SIDT, SKINIT, SLDT, SMSW, STAC, STGI, STMXCSR, STR, STUI, SUB, SWAPGS, TDCALL, TEST, TESTUI, TLBSYNC, TPAUSE, UIRET, UMONITOR, UMWAIT, VERR, VERW, VMCALL, VMCLEAR, VMFUNC, VMLAUNCH, VMLOAD, VMMCALL, VMPTRLD, VMPTRST, VMRESUME, VMRUN, VMSAVE, VMXOFF, VMXON, WRFSBASE, WRGSBASE, WRPKRU, XABORT, XBEGIN, XEND, XGETBV, XOR, XRESLDTRK, XRSTOR, XRSTORS, XRSTORS64, XSAVE, XSAVEC, XSAVEC64, XSAVEOPT, XSAVES, XSAVES64, XSETBV, XSUSLDTRK, XTEST}
+use Rattle.x86_opcodes.specs.Names.{ADC, ADD, AESDEC128KL, AESDEC256KL, AESDECWIDE128KL, AESDECWIDE256KL, AESENC128KL, AESENC256KL}
+use Rattle.x86_opcodes.specs.Names.{AESENCWIDE128KL, AESENCWIDE256KL, AND, BT, BTC, BTR, BTS, CALL, CALLF, CLAC, CLFLUSH, CLFLUSHOPT, CLGI}
+use Rattle.x86_opcodes.specs.Names.{CLRSSBSY, CLUI, CLWB, CLZERO, CMP, CMPXCHG16B, CMPXCHG8B, DEC, DIV, ENCLS, ENCLU, ENCLV, ENCODEKEY128}
+use Rattle.x86_opcodes.specs.Names.{ENCODEKEY256, ENDBR32, ENDBR64, EXTRQ, F2XM1, FABS, FADD, FADDP, FBLD, FBSTP, FCHS, FCMOVB, FCMOVBE}
+use Rattle.x86_opcodes.specs.Names.{FCMOVE, FCMOVNB, FCMOVNBE, FCMOVNE, FCMOVNU, FCMOVU, FCOM, FCOMI, FCOMIP, FCOMP, FCOMPP, FCOS, FDECSTP}
+use Rattle.x86_opcodes.specs.Names.{FDISI8087_NOP, FDIV, FDIVP, FDIVR, FDIVRP, FENI8087_NOP, FFREE, FFREEP, FIADD, FICOM, FICOMP, FIDIV}
+use Rattle.x86_opcodes.specs.Names.{FIDIVR, FILD, FIMUL, FINCSTP, FIST, FISTP, FISTTP, FISUB, FISUBR, FLD, FLD1, FLDCW, FLDENV, FLDL2E}
+use Rattle.x86_opcodes.specs.Names.{FLDL2T, FLDLG2, FLDLN2, FLDPI, FLDZ, FMUL, FMULP, FNCLEX, FNINIT, FNOP, FNSAVE, FNSTCW, FNSTENV, FNSTSW}
+use Rattle.x86_opcodes.specs.Names.{FPATAN, FPREM, FPREM1, FPTAN, FRNDINT, FRSTOR, FSCALE, FSETPM287_NOP, FSIN, FSINCOS, FSQRT, FST, FSTP}
+use Rattle.x86_opcodes.specs.Names.{FSTPNCE, FSUB, FSUBP, FSUBR, FSUBRP, FTST, FUCOM, FUCOMI, FUCOMIP, FUCOMP, FUCOMPP, FXAM, FXCH, FXRSTOR}
+use Rattle.x86_opcodes.specs.Names.{FXSAVE, FXTRACT, FYL2X, FYL2XP1, HRESET, IDIV, IMUL, INC, INCSSP, INSERTQ, INVLPG, INVLPGA, INVLPGB}
+use Rattle.x86_opcodes.specs.Names.{JMP, JMPF, LDMXCSR, LFENCE, LGDT, LIDT, LLDT, LMSW, LOADIWKEY, LTR, MFENCE, MONITOR, MONITORX, MOV}
+use Rattle.x86_opcodes.specs.Names.{MOVHLPS, MOVHPS, MOVLHPS, MOVLPS, MUL, MWAIT, MWAITX, NEG, NOP, NOT, OR, PCONFIG, POP, PREFETCH0}
+use Rattle.x86_opcodes.specs.Names.{PREFETCH1, PREFETCH2, PREFETCHNTA, PREFETCHW, PSLLD, PSLLDQ, PSLLQ, PSLLW, PSMASH, PSRAD, PSRAW, PSRLD}
+use Rattle.x86_opcodes.specs.Names.{PSRLDQ, PSRLQ, PSRLW, PTWRITE, PUSH, PVALIDATE, RCL, RCR, RDFSBASE, RDGSBASE, RDPID, RDPKRU, RDPRU}
+use Rattle.x86_opcodes.specs.Names.{RDRAND, RDSEED, RDTSCP, RMPADJUST, RMPUPDATE, ROL, ROR, RSTORSSP, SAL, SAR, SAVEPREVSSP, SBB, SEAMCALL}
+use Rattle.x86_opcodes.specs.Names.{SEAMOPS, SEAMRET, SENDUIPI, SETSSBSY, SFENCE, SGDT, SHL, SHR, SIDT, SKINIT, SLDT, SMSW, STAC, STGI}
+use Rattle.x86_opcodes.specs.Names.{STMXCSR, STR, STUI, SUB, SWAPGS, TDCALL, TEST, TESTUI, TLBSYNC, TPAUSE, UIRET, UMONITOR, UMWAIT, VERR}
+use Rattle.x86_opcodes.specs.Names.{VERW, VMCALL, VMCLEAR, VMFUNC, VMLAUNCH, VMLOAD, VMMCALL, VMPTRLD, VMPTRST, VMRESUME, VMRUN, VMSAVE}
+use Rattle.x86_opcodes.specs.Names.{VMXOFF, VMXON, WRFSBASE, WRGSBASE, WRPKRU, XABORT, XBEGIN, XEND, XGETBV, XOR, XRESLDTRK, XRSTOR}
+use Rattle.x86_opcodes.specs.Names.{XRSTORS, XRSTORS64, XSAVE, XSAVEC, XSAVEC64, XSAVEOPT, XSAVES, XSAVES64, XSETBV, XSUSLDTRK, XTEST}
 use Rattle.x86_fields.specs.declared.sizes.Width.TheVariants.{B, W, D, Q, X, V, Vq, Dq}
 use Rattle.x86_groups.specs.Vocabulary.{Form, BadOpcode, BadOperand, Incomplete, AtModRM, AfterAddress, ClearsOperandSize, Own, Name, Bytes, FormRow}
 use Rattle.x86_forms.specs.declared.Form.TheVariants as form
-use Rattle.x86_operands.specs.declared.plans.OperandEncoding.TheVariants.{E, G, U, M, Gmm, Emm, Umm, Cr, Dr, I8, U8, Iv, X8, Jv, StRm, RdInReg}
+use Rattle.x86_operands.specs.declared.plans.OperandEncoding.TheVariants.{E, G, Gmm, Emm, Cr, Dr, I8, U8, Iv, X8, Jv, StRm, RdInReg}
 use Rattle.x86_operands.specs.declared.plans.OperandEncodings.TheVariants.{Zero, One, Two, Three, Four}
 use Rattle.x86_operands.specs.declared.rows.When.TheVariants.{Always, NoPrefix, NoRepeat, Only66, F2, F3, With66, RexW, RexR}
 use Rattle.x86_operands.specs.Columns.{none}
-use Rattle.x86_operands.specs.Words.{mem, reg, both, mem_at, reg_at, both_at, reg_from, reg_rm, rm_at, strict_rm, by_reg, by_rm, signed_one, cl, rax, eax, ecx, st0, ecx_in_rm, edx_in_rm, ecx_third, of_vq, of_dq, size, size_v, size_vq, or_v, undecided, read, changing, suffixed, refusal, otherwise}
+use Rattle.x86_operands.specs.Words.{mem, reg, both, mem_at, reg_at, both_at, reg_from, reg_rm, rm_at, strict_rm, by_reg, by_rm, M, U, Umm}
+use Rattle.x86_operands.specs.Words.{signed_one, cl, rax, eax, ecx, st0, ecx_in_rm, edx_in_rm, ecx_third, of_vq, of_dq, size, size_v}
+use Rattle.x86_operands.specs.Words.{size_vq, or_v, undecided, read, changing, suffixed, refusal, otherwise}
 
 -- of the groups none is left to the last line, for forms that have no rows
 unfoldable pub group_rows : Form → List FormRow

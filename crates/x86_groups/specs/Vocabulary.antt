@@ -1,14 +1,13 @@
 -- The types that definitions and proofs of this crate import, with variants of them, and the words on prefixes, ModRM and
 -- registers.
-pub use Rattle.x86_operands.specs.Vocabulary.{DecodeError, Form, Prefixes, RegisterClass, TableRow, Width, class_of, has_r, has_w, is_memory, operand_size, reg_field, reg_spec, rep, repnz, rm_field, v_class, width_of}
+pub use Rattle.x86_operands.specs.Vocabulary.{DecodeError, Form, Prefixes, RegisterClass, TableRow, Width, class_of, has_r, has_w}
+pub use Rattle.x86_operands.specs.Vocabulary.{is_memory, operand_size, reg_field, reg_spec, rep, repnz, rm_field, v_class, width_of}
 pub use Rattle.x86_operands.specs.declared.plans.Fault.{Fault}
 pub use Rattle.x86_operands.specs.declared.plans.Moment.{Moment}
 pub use Rattle.x86_operands.specs.declared.plans.ModrmUse.{ModrmUse}
 pub use Rattle.x86_operands.specs.declared.plans.Plan.{Plan}
-pub use Rattle.x86_operands.specs.declared.encodings.AfterOpcode.{AfterOpcode}
-pub use Rattle.x86_operands.specs.declared.encodings.Size.{Size}
-pub use Rattle.x86_operands.specs.declared.encodings.FormEncoding.{FormEncoding}
-pub use Rattle.x86_operands.specs.declared.encodings.RegGroup.{RegGroup}
+pub use Rattle.x86_operands.specs.declared.heads.After.{After}
+pub use Rattle.x86_operands.specs.declared.sizing.Size.{Size}
 pub use Rattle.x86_operands.specs.declared.reader.Reading.{Reading}
 pub use Rattle.x86_operands.specs.declared.plans.OperandEncodings.TheVariants.{Zero}
 pub use Rattle.x86_operands.specs.declared.plans.Fault.TheVariants.{BadOpcode, BadOperand, Incomplete}

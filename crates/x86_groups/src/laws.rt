@@ -12,11 +12,8 @@ ghost use Rattle.x86_operands.specs.declared.plans.Fault.TheVariants.{Incomplete
 ghost use Rattle.x86_operands.specs.declared.plans.Moment.{Moment};
 ghost use Rattle.x86_operands.specs.declared.plans.Moment.TheVariants.{AfterAddress};
 ghost use Rattle.x86_operands.specs.declared.plans.Verdict.TheVariants.{Refuses};
-ghost use Rattle.x86_forms.specs.Words.{carried};
-ghost use Rattle.x86_operands.specs.Forms.{group_form};
 ghost use Rattle.x86_operands.specs.PlanSteps.{record_step};
-ghost use Rattle.x86_operands.specs.declared.encodings.RegGroup.{RegGroup};
-ghost use Rattle.x86_groups.specs.Groups.{reg_plan, reg_step, IsFenceWithRm, group_record, group_plan, operandless, bad_operand};
+ghost use Rattle.x86_groups.specs.Groups.{IsFenceWithRm, group_record, group_plan, operandless, bad_operand};
 
 use x86_forms::Form;
 
@@ -64,15 +61,4 @@ pub fn choices_differ_on_fences()
         (fence : IsFenceWithRm row.form p m) → group_plan row p m false ≡ operandless fence.opcode }
     ensures strictly { (row : TableRow) (p : Prefixes) (m : ℕ) →
         IsFenceWithRm row.form p m → group_plan row p m true ≡ bad_operand }
-{}
-
-/// A group that reg alone chooses is read by its ModRM byte and the plan of its line there, under both choices. Its
-/// form carries no number.
-pub fn reg_groups_are_chosen()
-    ensures group { (g : RegGroup) (f : Form) → f ≡ group_form g → is_group f ≡ true }
-    ensures carries { (g : RegGroup) (f : Form) → f ≡ group_form g → carried f ≡ 0 }
-    ensures plan { (g : RegGroup) (strict : Bool) (row : TableRow) (p : Prefixes) (m : ℕ) →
-        row.form ≡ group_form g → group_plan row p m strict ≡ reg_plan g p m }
-    ensures read { (g : RegGroup) (strict : Bool) (row : TableRow) (p : Prefixes) (s : State ℕ) →
-        row.form ≡ group_form g → record_step (group_record strict row p) p s ≡ reg_step g p s }
 {}

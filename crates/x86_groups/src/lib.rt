@@ -1,8 +1,7 @@
 //! Groups: the forms of which ModRM or a suffix chooses the operation. With them every row can be read.
 //!
-//! Each group has rows, of which the first that holds counts, and so a plan at each ModRM byte, under the prefixes. The
-//! definitions have them as the manual prints them (specs/Rows.antt). A row of the opcode maps is read by its plan, that
-//! of its group or that of its plain form.
+//! Each group has rows, of which the first that holds counts. The definitions have them as the manual prints them
+//! (specs/Rows.antt). Where mod and reg alone choose the row, a cell names it.
 #![tactic(auto)]
 
 ghost use Rattle.std.specs.Prelude.{◌≡◌, true};
@@ -10,29 +9,51 @@ ghost use Rattle.x86_arch.specs.Reader.{State};
 ghost use Rattle.x86_fields.specs.Steps.{outcome};
 ghost use Rattle.x86_forms.specs.Groups.{is_group};
 ghost use Rattle.x86_operands.specs.PlanSteps.{record_step};
-ghost use Rattle.x86_operands.specs.Places.{record_placed};
+ghost use Rattle.x86_operands.specs.Places.{plan_placed, record_placed};
 ghost use Rattle.x86_operands.specs.OperandList.{value_if_ok, no_operands, reading_with};
 ghost use Rattle.x86_forms.specs.Words.{IsForm};
 ghost use Rattle.x86_groups.specs.Groups.{group_record, record_of};
 
-mod by_reg;
+mod cells;
 pub mod laws;
-mod plans;
+mod rows;
 mod tables;
 
-pub use by_reg::chosen;
-pub use plans::{group_ask, row_ask, row_at, row_fault, row_modrm, row_plan};
+use rows::{chosen_row, row_fault, row_modrm};
+pub use rows::{SureRow, group_ask, row_ask, row_at, sure_row, word_after};
 use x86_arch::Reader;
-use x86_fields::{DecodeError, Prefixes};
+use x86_fields::{DecodeError, ModRM, Prefixes};
 use x86_forms::TableRow;
 use x86_opcodes::Opcode;
-use x86_operands::{
-    Operands, Places, Reading, read_modrm, read_plan, read_plan_into, refuse_fault,
-};
+use x86_operands::{Operands, Places, Reading, read_modrm, refuse_fault};
+
+/// What a row has after a ModRM byte, written into blank operands, and the places of its parts.
+#[tactic(auto, using(x86_operands::proofs::PlaceLemmas::plan_is_placed))]
+pub fn read_after_modrm<T: Reader<u64, u8>>(
+    reader: &mut T,
+    row: &TableRow,
+    strict: bool,
+    modrm: ModRM,
+    prefixes: &mut Prefixes,
+    opcode: &mut Opcode,
+    operand_list: &mut Operands,
+    places: &mut Places,
+) -> Result<(), DecodeError>
+    requires form { IsForm row.now.form }
+    requires blank { operand_list.old ≡ no_operands }
+    ensures { outcome
+        (value_if_ok result (reading_with opcode.new prefixes.new operand_list.new, places.new))
+        (T.state reader.new) ≡ plan_placed places.old.opcode_end
+        ((record_of strict row.now prefixes.old).plan modrm) prefixes.old modrm
+        (T.state reader.old) }
+{
+    let chosen = chosen_row(row, strict, prefixes, modrm);
+    chosen.read_into(row, reader, modrm, prefixes, opcode, operand_list, places)
+}
 
 /// What a row has after its opcode byte, written into blank operands, and the places of its parts.
 #[inline(never)]
-#[tactic(auto, unfolding(x86_operands::specs::Places::record_placed), using(x86_operands::proofs::PlaceLemmas::plan_is_placed))]
+#[tactic(auto, unfolding(x86_operands::specs::Places::record_placed))]
 pub fn read_row_into<T: Reader<u64, u8>>(
     reader: &mut T,
     row: TableRow,
@@ -51,8 +72,16 @@ pub fn read_row_into<T: Reader<u64, u8>>(
 {
     refuse_fault(row_fault(&row, prefixes))?;
     let modrm = read_modrm(reader, row_modrm(&row))?;
-    let plan = row_plan(&row, strict, prefixes, modrm);
-    read_plan_into(reader, &plan, modrm, prefixes, opcode, operand_list, places)
+    read_after_modrm(
+        reader,
+        &row,
+        strict,
+        modrm,
+        prefixes,
+        opcode,
+        operand_list,
+        places,
+    )
 }
 
 /// What a row has after its opcode byte.
@@ -69,8 +98,8 @@ pub fn read_row<T: Reader<u64, u8>>(
 {
     refuse_fault(row_fault(&row, &prefixes))?;
     let modrm = read_modrm(reader, row_modrm(&row))?;
-    let plan = row_plan(&row, strict, &prefixes, modrm);
-    read_plan(reader, &plan, prefixes, modrm)
+    let chosen = chosen_row(&row, strict, &prefixes, modrm);
+    chosen.read(&row, reader, modrm, prefixes)
 }
 
 /// Reads what a row has after its opcode byte, where its form is a group.

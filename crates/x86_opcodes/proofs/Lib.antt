@@ -1,2 +1,3 @@
 -- What several answers share.
 mod NameLemmas
+mod HashLemmas

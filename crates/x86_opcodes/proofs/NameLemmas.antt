@@ -1,5 +1,6 @@
 -- The list of the names: its order, and how long each is.
-use Rattle.std.proofs.Common.{◌≡◌, ℕ, ◌+◌, ◌*◌, ◌/◌, ◌%◌, ◌<◌, Bool, true, eqb, List, [], ◌∷◌, length, map, get_or, take, drop, ◌&&◌, zero, suc, ◌≤◌, leb, ltb, Some, slice_get, sym, ap, ◌∙◌, arith}
+use Rattle.std.proofs.Common.{◌≡◌, ℕ, ◌+◌, ◌*◌, ◌/◌, ◌%◌, ◌<◌, Bool, true, eqb, List, [], ◌∷◌, length, map, get_or, take, drop, ◌&&◌, zero}
+use Rattle.std.proofs.Common.{suc, ◌≤◌, leb, ltb, Some, slice_get, sym, ap, ◌∙◌, arith}
 use Rattle.x86_opcodes.specs.Mnemonics.{Named, spelled_in}
 use Rattle.std.proofs.lemmas.List.{get_or-take, get_or-drop, length-take, length-drop}
 use Rattle.std.proofs.lemmas.Bool.{and_parts, eqb-true, eq-eqb, ne_eqb, cond-true, cond-false, cond_both, leb-true, ltb-true}
@@ -49,7 +50,8 @@ pub short : (ns : List Named) (o : ℕ) → all_short ns ≡ true → length (sp
 short [] o e = omega arith
 short (n ∷ ns) o e =
     let parts = and_parts (leb (length n.spelled) 16) (all_short ns) e in
-    cond_both (eqb n.opcode o) n.spelled (spelled_in ns o) (λ (text : List ℕ). length text ≤ 16) (λ _. leb-true (length n.spelled) 16 parts.0) (λ _. short ns o parts.1)
+    cond_both (eqb n.opcode o) n.spelled (spelled_in ns o) (λ (text : List ℕ). length text ≤ 16)
+    (λ _. leb-true (length n.spelled) 16 parts.0) (λ _. short ns o parts.1)
 
 -- so no place has an empty name
 pub long : (ns : List Named) (n : ℕ) → all_named ns ≡ true → n < length ns → 0 < length (get_or (map (λ r. r.spelled) ns) n [])
@@ -58,7 +60,8 @@ long (r ∷ ns) zero e h = ltb-true 0 (length r.spelled) (and_parts (ltb 0 (leng
 long (r ∷ ns) (suc n) e h = long ns n (and_parts (ltb 0 (length r.spelled)) (all_named ns) e).1 (omega arith)
 
 -- a text of the part of a number is the text with that number
-pub in_part : (texts part : List (List ℕ)) (n : ℕ) (text : List ℕ) → part ≡ take 128 (drop (128 * (n / 128)) texts) → text ≡ get_or part (n % 128) [] → text ≡ get_or texts n []
+pub in_part : (texts part : List (List ℕ)) (n : ℕ) (text : List ℕ) → part ≡ take 128 (drop (128 * (n / 128)) texts) →
+    text ≡ get_or part (n % 128) [] → text ≡ get_or texts n []
 in_part texts part n text is_part at =
     let number : 128 * (n / 128) + n % 128 ≡ n = omega arith in
     at

@@ -1386,10 +1386,10 @@ impl Opcode {
     pub const XSUSLDTRK: Opcode = Opcode { number: 689 };
 
     pub const XTEST: Opcode = Opcode { number: 690 };
-}
 
-/// How many names there are, `Invalid` among them.
-pub(crate) const OPCODES: u16 = 691;
+    /// How many names there are, `Invalid` among them: the size of a table by `number`.
+    pub const COUNT: usize = 691;
+}
 
 /// How many constants a table has. The last one has what is left.
 pub(crate) const PART: u16 = 128;

@@ -1,16 +1,19 @@
 -- What the columns of the first row have: that its plan passes the tests of plans, and what it goes by in the memory form.
-use Rattle.std.proofs.Common.{◌&&◌, ◌≡◌, inl, inr, ◌≤◌, ℕ, nat_lt, Bool, true, false, not, ◌||◌, List, [], ◌∷◌, map, refl, sym, ap, ◌∙◌, arith, true≢false, ◌≢◌, if◌then◌else◌, rules}
+use Rattle.std.proofs.Common.{◌&&◌, ◌≡◌, inl, inr, ◌≤◌, ℕ, nat_lt, Bool, true, false, not, ◌||◌, List, [], ◌∷◌, map, refl, sym, ap, ◌∙◌}
+use Rattle.std.proofs.Common.{arith, true≢false, ◌≢◌, if◌then◌else◌, rules}
 use Rattle.std.specs.List.{list_all, list_any}
 use Rattle.std.proofs.lemmas.Bool.{and_parts, or_cases, and_left}
 use Rattle.std.proofs.lemmas.Bool.Decides.{nat_tests}
 use Rattle.x86_fields.specs.Pieces.{total}
-use Rattle.x86_operands.specs.Vocabulary.{Prefixes, Size, OperandEncoding, TableRow, BadOpcode, AtModRM, reg_field, is_memory, RegisterClass, Fault, Incomplete, Moment, Verdict, Refuses, Plan, OperandEncodings, width_of, has_r, has_w, repnz, rep}
+use Rattle.x86_operands.specs.Vocabulary.{Prefixes, Size, OperandEncoding, TableRow, BadOpcode, AtModRM, reg_field, is_memory}
+use Rattle.x86_operands.specs.Vocabulary.{RegisterClass, Fault, Incomplete, Moment, Verdict, Refuses, Plan, OperandEncodings, width_of}
+use Rattle.x86_operands.specs.Vocabulary.{has_r, has_w, repnz, rep}
 use Rattle.x86_operands.specs.RowVocabulary.{RowSize, Bytes, Of, Names, FormRow, Place, Register, Reg, When, Rm, ByRm}
 use Rattle.x86_operands.specs.Words.{otherwise}
 use Rattle.x86_forms.specs.Words.{carried}
 use Rattle.x86_operands.specs.Plans.{is_refusal, list_of}
 use Rattle.x86_operands.specs.Pieces.{is_modrm_encoding}
-use Rattle.x86_operands.specs.declared.encodings.Size.TheVariants as size
+use Rattle.x86_operands.specs.declared.sizing.Size.TheVariants as size
 use Rattle.x86_operands.specs.declared.plans.OperandEncoding.TheVariants as encoding
 use Rattle.x86_operands.specs.Asks.{immediate_width, immediates_width}
 use Rattle.x86_operands.specs.Encodings.{all_settled, settled, size_bytes}
@@ -24,7 +27,9 @@ if_has : (P : FormRow → Type 0) (b : Bool) (x y : FormRow) → (b ≡ true →
 if_has P true x y f g = f refl
 if_has P false x y f g = g
 
-pub chosen_has : (P : FormRow → Type 0) (test : FormRow → Bool) (own : TableRow) (strict : Bool) (p : Prefixes) (m : ℕ) → P (otherwise BadOpcode AtModRM) → ((row : FormRow) → test row ≡ true → is_there row own strict p m ≡ true → P row) → (rows : List FormRow) → list_all test rows ≡ true → P (choose rows own strict p m)
+pub chosen_has : (P : FormRow → Type 0) (test : FormRow → Bool) (own : TableRow) (strict : Bool) (p : Prefixes) (m : ℕ) →
+    P (otherwise BadOpcode AtModRM) → ((row : FormRow) → test row ≡ true → is_there row own strict p m ≡ true → P row) →
+    (rows : List FormRow) → list_all test rows ≡ true → P (choose rows own strict p m)
 chosen_has P test own strict p m blank each [] h = blank
 chosen_has P test own strict p m blank each (row ∷ rest) h =
     let parts = and_parts (test row) (list_all test rest) h in
@@ -32,7 +37,8 @@ chosen_has P test own strict p m blank each (row ∷ rest) h =
 
 -- ---- rows that are there alike are chosen alike
 
-module _ (test : FormRow → Bool) (own : TableRow) (s t : Bool) (p q : Prefixes) (m n : ℕ) (same : (row : FormRow) → test row ≡ true → is_there row own s p m ≡ is_there row own t q n) where
+module _ (test : FormRow → Bool) (own : TableRow) (s t : Bool) (p q : Prefixes) (m n : ℕ)
+    (same : (row : FormRow) → test row ≡ true → is_there row own s p m ≡ is_there row own t q n) where
   pub chosen_alike : (rows : List FormRow) → list_all test rows ≡ true → choose rows own s p m ≡ choose rows own t q n
   chosen_alike [] h = refl
   chosen_alike (row ∷ rest) h =
@@ -61,7 +67,8 @@ abbrev pub is_register : Place → Bool
 is_register Register = true
 is_register place = false
 
-pub row_absent : (row : FormRow) (own : TableRow) (strict : Bool) (p : Prefixes) (m : ℕ) → is_register row.at.place ≡ true → is_memory m ≡ true → is_there row own strict p m ≡ false
+pub row_absent : (row : FormRow) (own : TableRow) (strict : Bool) (p : Prefixes) (m : ℕ) → is_register row.at.place ≡ true →
+    is_memory m ≡ true → is_there row own strict p m ≡ false
 row_absent row own strict p m h e = and_left (is_placed row.at.place m) _ (grind arith)
 
 -- a row that isn't chosen by rm
@@ -96,7 +103,13 @@ module _ (p q : Prefixes) (m n : ℕ) (h : SamePrefixes p q) (mm : is_memory m �
     | inr rest ↦
         let parts = and_parts (no_b row.when) _ rest in
         let rms = and_parts (no_rm row.at.rm) (no_rm_names row.names) parts.1 in
-        rw (placed_alike row.at.place, reg_alike row.at.reg, rm_alike row.at.rm strict rms.0, prefixed_alike row.when own p q h parts.0, named_alike row.names rms.1) refl
+        rw (
+          placed_alike row.at.place,
+          reg_alike row.at.reg,
+          rm_alike row.at.rm strict rms.0,
+          prefixed_alike row.when own p q h parts.0,
+          named_alike row.names rms.1,
+        ) refl
   ]
 
 -- ---- tests of plans, that hold of a choice where they hold of both sides
@@ -180,10 +193,16 @@ row_passes gaps row own p m h =
     let sizes = and_parts (gaps || not (has_gap row.verdict)) _ h in
     let register = and_parts (small_bytes row.in_memory) _ sizes.1 in
     let operands = and_parts (small_bytes row.in_register) _ register.1 in
-    rw (sizes.0, small_if (is_memory m) _ _ (bytes_small row.in_memory own.opcode p register.0) (bytes_small row.in_register own.opcode p operands.0), settled_narrow row.operands (carried own.form) p operands.1) refl
+    rw (
+      sizes.0,
+      small_if (is_memory m) _ _ (bytes_small row.in_memory own.opcode p register.0)
+          (bytes_small row.in_register own.opcode p operands.0),
+      settled_narrow row.operands (carried own.form) p operands.1,
+    ) refl
 
 -- the plan of the first of rows that fit
-pub rows_pass : (gaps : Bool) (rows : List FormRow) (own : TableRow) (strict : Bool) (p : Prefixes) (m : ℕ) → list_all (row_fits gaps) rows ≡ true → passes gaps (plan_of_row (choose rows own strict p m) own p m) ≡ true
+pub rows_pass : (gaps : Bool) (rows : List FormRow) (own : TableRow) (strict : Bool) (p : Prefixes) (m : ℕ) →
+    list_all (row_fits gaps) rows ≡ true → passes gaps (plan_of_row (choose rows own strict p m) own p m) ≡ true
 rows_pass gaps rows own strict p m h =
     row_passes gaps (choose rows own strict p m) own p m
     (chosen_has (λ row. row_fits gaps row ≡ true) (row_fits gaps) own strict p m (grind arith) (λ row e held. e) rows h)
@@ -199,7 +218,8 @@ rm_free_encoding s = true
 
 -- nothing of it goes by rm, X or B; and it refuses, or has a memory operand
 abbrev pub in_memory : FormRow → Bool
-in_memory row = no_rm_names row.names && (list_all rm_free_encoding (list_of row.operands) && (is_refusal row.verdict || list_any is_modrm_encoding (list_of row.operands)))
+in_memory row = no_rm_names row.names && (list_all rm_free_encoding (list_of row.operands)
+    && (is_refusal row.verdict || list_any is_modrm_encoding (list_of row.operands)))
 
 abbrev pub row_in_memory : FormRow → Bool
 row_in_memory row = is_register row.at.place || in_memory row
@@ -225,13 +245,21 @@ module _ (own : TableRow) (p q : Prefixes) (m n : ℕ) (h : SamePrefixes p q) wh
   opcode_alike : (names : Names) → reg_field m ≡ reg_field n → no_rm_names names ≡ true → opcode_of names own m ≡ opcode_of names own n
   opcode_alike names same e = grind arith
 
-  pub plan_alike : (row : FormRow) → reg_field m ≡ reg_field n → is_memory m ≡ is_memory n → in_memory row ≡ true → plan_of_row row own p m ≡ plan_of_row row own q n
+  pub plan_alike : (row : FormRow) → reg_field m ≡ reg_field n → is_memory m ≡ is_memory n → in_memory row ≡ true →
+      plan_of_row row own p m ≡ plan_of_row row own q n
   plan_alike row same mem e =
       let x = and_parts (no_rm_names row.names) _ e in
-      rw (opcode_alike row.names same x.0, all_settled_alike row.operands (carried own.form) p q h, bytes_alike row.in_memory own.opcode, bytes_alike row.in_register own.opcode, mem) refl
+      rw (
+        opcode_alike row.names same x.0,
+        all_settled_alike row.operands (carried own.form) p q h,
+        bytes_alike row.in_memory own.opcode,
+        bytes_alike row.in_register own.opcode,
+        mem,
+      ) refl
 
 -- in the memory form the first row refuses, or has a memory operand
-pub first_in_memory : (rows : List FormRow) (own : TableRow) (strict : Bool) (p : Prefixes) (m : ℕ) → list_all keeps_reg rows ≡ true → is_memory m ≡ true → in_memory (choose rows own strict p m) ≡ true
+pub first_in_memory : (rows : List FormRow) (own : TableRow) (strict : Bool) (p : Prefixes) (m : ℕ) → list_all keeps_reg rows ≡ true →
+    is_memory m ≡ true → in_memory (choose rows own strict p m) ≡ true
 first_in_memory rows own strict p m h mem =
     chosen_has (λ row. in_memory row ≡ true) keeps_reg own strict p m refl
     (λ row test held. elim (or_cases (is_register row.at.place) (in_memory row) (and_parts (rm_free row) _ test).1) [
@@ -239,7 +267,10 @@ first_in_memory rows own strict p m h mem =
       | inr e ↦ e
     ]) rows h
 
-pub rows_alike : (rows : List FormRow) (own : TableRow) (strict : Bool) (p q : Prefixes) (m n : ℕ) → list_all keeps_reg rows ≡ true → SamePrefixes p q → is_memory m ≡ true → is_memory n ≡ true → reg_field m ≡ reg_field n → plan_of_row (choose rows own strict p m) own p m ≡ plan_of_row (choose rows own strict q n) own q n
+pub rows_alike : (rows : List FormRow) (own : TableRow) (strict : Bool) (p q : Prefixes) (m n : ℕ) → list_all keeps_reg rows ≡ true →
+    SamePrefixes p q → is_memory m ≡ true → is_memory n ≡ true → reg_field m ≡ reg_field n →
+    plan_of_row (choose rows own strict p m) own p m ≡ plan_of_row (choose rows own strict q n) own q n
 rows_alike rows own strict p q m n kept h mm nm same =
     plan_alike own p q m n h (choose rows own strict p m) same (mm ∙ sym nm) (first_in_memory rows own strict p m kept mm)
-    ∙ ap (λ row. plan_of_row row own q n) (chosen_alike keeps_reg own strict strict p q m n (λ row test. there_alike p q m n h mm nm same own strict row (and_parts (rm_free row) _ test).0) rows kept)
+    ∙ ap (λ row. plan_of_row row own q n) (chosen_alike keeps_reg own strict strict p q m n (λ row test.
+    there_alike p q m n h mm nm same own strict row (and_parts (rm_free row) _ test).0) rows kept)

@@ -16,13 +16,17 @@ use Rattle.x86_operands.specs.contracts.operands.OperandPartialEq.TheImpl as ope
 two : {A B R : Type 0} (f : A → B → R) {a a2 : A} {b b2 : B} {x y : Bool} → (x ≡ true → a ≡ a2) → (y ≡ true → b ≡ b2) → (x && y) ≡ true → f a b ≡ f a2 b2
 two f p q h = let i = and_parts _ _ h in cc (p i.0, q i.1)
 
-three : {A B C R : Type 0} (f : A → B → C → R) {a a2 : A} {b b2 : B} {c c2 : C} {x y z : Bool} → (x ≡ true → a ≡ a2) → (y ≡ true → b ≡ b2) → (z ≡ true → c ≡ c2) → (x && (y && z)) ≡ true → f a b c ≡ f a2 b2 c2
+three : {A B C R : Type 0} (f : A → B → C → R) {a a2 : A} {b b2 : B} {c c2 : C} {x y z : Bool} → (x ≡ true → a ≡ a2) → (y ≡ true → b ≡ b2) →
+    (z ≡ true → c ≡ c2) → (x && (y && z)) ≡ true → f a b c ≡ f a2 b2 c2
 three f {a = a} p q r h = let i = and_parts _ _ h in cc (p i.0, two (f a) q r i.1)
 
-four : {A B C D R : Type 0} (f : A → B → C → D → R) {a a2 : A} {b b2 : B} {c c2 : C} {d d2 : D} {x y z w : Bool} → (x ≡ true → a ≡ a2) → (y ≡ true → b ≡ b2) → (z ≡ true → c ≡ c2) → (w ≡ true → d ≡ d2) → (x && (y && (z && w))) ≡ true → f a b c d ≡ f a2 b2 c2 d2
+four : {A B C D R : Type 0} (f : A → B → C → D → R) {a a2 : A} {b b2 : B} {c c2 : C} {d d2 : D} {x y z w : Bool} → (x ≡ true → a ≡ a2) →
+    (y ≡ true → b ≡ b2) → (z ≡ true → c ≡ c2) → (w ≡ true → d ≡ d2) → (x && (y && (z && w))) ≡ true → f a b c d ≡ f a2 b2 c2 d2
 four f {a = a} p q r s h = let i = and_parts _ _ h in cc (p i.0, three (f a) q r s i.1)
 
-five : {A B C D E R : Type 0} (f : A → B → C → D → E → R) {a a2 : A} {b b2 : B} {c c2 : C} {d d2 : D} {e e2 : E} {x y z w v : Bool} → (x ≡ true → a ≡ a2) → (y ≡ true → b ≡ b2) → (z ≡ true → c ≡ c2) → (w ≡ true → d ≡ d2) → (v ≡ true → e ≡ e2) → (x && (y && (z && (w && v)))) ≡ true → f a b c d e ≡ f a2 b2 c2 d2 e2
+five : {A B C D E R : Type 0} (f : A → B → C → D → E → R) {a a2 : A} {b b2 : B} {c c2 : C} {d d2 : D} {e e2 : E} {x y z w v : Bool} →
+    (x ≡ true → a ≡ a2) → (y ≡ true → b ≡ b2) → (z ≡ true → c ≡ c2) → (w ≡ true → d ≡ d2) → (v ≡ true → e ≡ e2) →
+    (x && (y && (z && (w && v)))) ≡ true → f a b c d e ≡ f a2 b2 c2 d2 e2
 five f {a = a} p q r s t h = let i = and_parts _ _ h in cc (p i.0, four (f a) q r s t i.1)
 
 registers : {a b : RegSpec} → register.ghosts.eq a b ≡ true → a ≡ b
@@ -50,22 +54,33 @@ same_operands (operands.ImmediateU32 imm) (operands.ImmediateU32 imm2) h = ap op
 same_operands (operands.ImmediateI64 imm) (operands.ImmediateI64 imm2) h = ap operands.ImmediateI64 (integers h)
 same_operands (operands.ImmediateU64 imm) (operands.ImmediateU64 imm2) h = ap operands.ImmediateU64 (numbers h)
 same_operands (operands.Register reg) (operands.Register reg2) h = ap operands.Register (registers h)
-same_operands (operands.RegisterMaskMerge reg mask mode) (operands.RegisterMaskMerge reg2 mask2 mode2) h = three operands.RegisterMaskMerge registers registers merges h
-same_operands (operands.RegisterMaskMergeSae reg mask mode sae) (operands.RegisterMaskMergeSae reg2 mask2 mode2 sae2) h = four operands.RegisterMaskMergeSae registers registers merges roundings h
-same_operands (operands.RegisterMaskMergeSaeNoround reg mask mode) (operands.RegisterMaskMergeSaeNoround reg2 mask2 mode2) h = three operands.RegisterMaskMergeSaeNoround registers registers merges h
+same_operands (operands.RegisterMaskMerge reg mask mode) (operands.RegisterMaskMerge reg2 mask2 mode2) h =
+    three operands.RegisterMaskMerge registers registers merges h
+same_operands (operands.RegisterMaskMergeSae reg mask mode sae) (operands.RegisterMaskMergeSae reg2 mask2 mode2 sae2) h =
+    four operands.RegisterMaskMergeSae registers registers merges roundings h
+same_operands (operands.RegisterMaskMergeSaeNoround reg mask mode) (operands.RegisterMaskMergeSaeNoround reg2 mask2 mode2) h =
+    three operands.RegisterMaskMergeSaeNoround registers registers merges h
 same_operands (operands.AbsoluteU32 addr) (operands.AbsoluteU32 addr2) h = ap operands.AbsoluteU32 (numbers h)
 same_operands (operands.AbsoluteU64 addr) (operands.AbsoluteU64 addr2) h = ap operands.AbsoluteU64 (numbers h)
 same_operands (operands.MemDeref base) (operands.MemDeref base2) h = ap operands.MemDeref (registers h)
 same_operands (operands.Disp base disp) (operands.Disp base2 disp2) h = two operands.Disp registers integers h
 same_operands (operands.MemIndexScale index scale) (operands.MemIndexScale index2 scale2) h = two operands.MemIndexScale registers numbers h
-same_operands (operands.MemIndexScaleDisp index scale disp) (operands.MemIndexScaleDisp index2 scale2 disp2) h = three operands.MemIndexScaleDisp registers numbers integers h
-same_operands (operands.MemBaseIndexScale base index scale) (operands.MemBaseIndexScale base2 index2 scale2) h = three operands.MemBaseIndexScale registers registers numbers h
-same_operands (operands.MemBaseIndexScaleDisp base index scale disp) (operands.MemBaseIndexScaleDisp base2 index2 scale2 disp2) h = four operands.MemBaseIndexScaleDisp registers registers numbers integers h
+same_operands (operands.MemIndexScaleDisp index scale disp) (operands.MemIndexScaleDisp index2 scale2 disp2) h =
+    three operands.MemIndexScaleDisp registers numbers integers h
+same_operands (operands.MemBaseIndexScale base index scale) (operands.MemBaseIndexScale base2 index2 scale2) h =
+    three operands.MemBaseIndexScale registers registers numbers h
+same_operands (operands.MemBaseIndexScaleDisp base index scale disp) (operands.MemBaseIndexScaleDisp base2 index2 scale2 disp2) h =
+    four operands.MemBaseIndexScaleDisp registers registers numbers integers h
 same_operands (operands.MemDerefMasked base mask) (operands.MemDerefMasked base2 mask2) h = two operands.MemDerefMasked registers registers h
 same_operands (operands.DispMasked base disp mask) (operands.DispMasked base2 disp2 mask2) h = three operands.DispMasked registers integers registers h
-same_operands (operands.MemIndexScaleMasked index scale mask) (operands.MemIndexScaleMasked index2 scale2 mask2) h = three operands.MemIndexScaleMasked registers numbers registers h
-same_operands (operands.MemIndexScaleDispMasked index scale disp mask) (operands.MemIndexScaleDispMasked index2 scale2 disp2 mask2) h = four operands.MemIndexScaleDispMasked registers numbers integers registers h
-same_operands (operands.MemBaseIndexScaleMasked base index scale mask) (operands.MemBaseIndexScaleMasked base2 index2 scale2 mask2) h = four operands.MemBaseIndexScaleMasked registers registers numbers registers h
-same_operands (operands.MemBaseIndexScaleDispMasked base index scale disp mask) (operands.MemBaseIndexScaleDispMasked base2 index2 scale2 disp2 mask2) h = five operands.MemBaseIndexScaleDispMasked registers registers numbers integers registers h
+same_operands (operands.MemIndexScaleMasked index scale mask) (operands.MemIndexScaleMasked index2 scale2 mask2) h =
+    three operands.MemIndexScaleMasked registers numbers registers h
+same_operands (operands.MemIndexScaleDispMasked index scale disp mask) (operands.MemIndexScaleDispMasked index2 scale2 disp2 mask2) h =
+    four operands.MemIndexScaleDispMasked registers numbers integers registers h
+same_operands (operands.MemBaseIndexScaleMasked base index scale mask) (operands.MemBaseIndexScaleMasked base2 index2 scale2 mask2) h =
+    four operands.MemBaseIndexScaleMasked registers registers numbers registers h
+same_operands (operands.MemBaseIndexScaleDispMasked base index scale disp mask)
+    (operands.MemBaseIndexScaleDispMasked base2 index2 scale2 disp2 mask2) h =
+    five operands.MemBaseIndexScaleDispMasked registers registers numbers integers registers h
 same_operands operands.Nothing operands.Nothing h = refl
 same_operands _ _ h = absurd (true≢false (sym h))

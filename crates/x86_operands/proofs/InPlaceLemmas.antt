@@ -1,136 +1,332 @@
--- What an encoding writes in place is what its plan yields.
-use Rattle.std.proofs.Common.{◌≡◌, ℕ, Bool, true, false, if◌then◌else◌, ◌≢◌, refl, ap, ◌∙◌, Ok, Err, Result, None, Some, Option, arith, sym}
+-- What a template writes in place is what its operands yield.
+use Rattle.std.proofs.Common.{◌≡◌, ℕ, List, Bool, true, false, not, ◌||◌, if◌then◌else◌, ◌≢◌, refl, ap, ◌∙◌, Ok, Err, Result, None, Some}
+use Rattle.std.proofs.Common.{Option, arith, sym, true≢false}
 use Rattle.x86_arch.specs.Reader.{State}
-use Rattle.x86_operands.specs.Vocabulary.{DecodeError, Prefixes, Raw, Slot, Operand, OperandEncoding, OperandEncodings, Position, Nowhere, Order, AfterOpcode, Width, FormEncoding, Reading, Operands, is_memory, absent_modrm, class_of, register_of, reg_spec, rm_field}
+use Rattle.x86_operands.specs.Vocabulary.{DecodeError, Prefixes, Raw, Slot, Operand, OperandEncoding, Position, Nowhere, Order, Width}
+use Rattle.x86_operands.specs.Vocabulary.{Template, Reading, Operands, is_memory, absent_modrm}
 use Rattle.x86_fields.specs.declared.sizes.Width.TheVariants as width
 use Rattle.x86_regs.specs.declared.RegisterClass.TheVariants as class
+use Rattle.x86_fields.specs.Raw.{read_raw}
 use Rattle.x86_fields.specs.Steps.{Step, Outcome, outcome, then_from, pure, ◌>>=◌}
-use Rattle.x86_operands.specs.PlanSteps.{read_plan, read_memory, filled_step, operands_step, operand_step, reading_from, known_operand, memory_or}
-use Rattle.x86_operands.specs.Plans.{list_of, reads, rm_number}
+use Rattle.x86_operands.specs.PlanSteps.{read_plan, read_memory, filled_step, operands_step, operand_step, known_operand}
+use Rattle.x86_operands.specs.Plans.{list_of}
 use Rattle.x86_operands.specs.Operands.{shape}
-use Rattle.x86_operands.specs.Encodings.{index_of_position, is_last, settled, somewhere, reg_encoding, rm_encoding, encodings_in, plan_of, size_bytes, size_at, is_order, has_modrm, has_register, order_fits, allows}
-use Rattle.x86_operands.specs.OperandList.{encoded_read, put_encoded, put_in, placed, reg_pair, fixed_pair, reading_with, sized, last_read, leading_read, operands_read}
-use Rattle.x86_operands.proofs.OrderLemmas.{Named, no_named, named_of, accepted, no_memory, no_modrm}
+use Rattle.x86_operands.specs.Encodings.{all_settled, settled, size_bytes}
+use Rattle.x86_operands.specs.Templates.{encodings_in, fits_form, fixed_encoding, index_of_position, is_field, is_last, is_order, is_stack}
+use Rattle.x86_operands.specs.Templates.{template_operands, reg_encoding, reg_part, rm_encoding, size_at, somewhere, template_plan}
+use Rattle.x86_operands.specs.RowSteps.{skipped_if}
+use Rattle.x86_operands.specs.OperandList.{encoded_read, put_encoded, put_in, placed, reg_pair, rm_pair, fixed_pair, reading_with, rm_read}
+use Rattle.x86_operands.specs.OperandList.{sized, value_if_ok, last_read, leading_read, operands_read, other_read, all_read}
+use Rattle.x86_operands.proofs.OrderLemmas.{Named, no_named, named}
 
 abbrev Pair : Type 0
 Pair = Slot × Operand
 
--- ---- operand encodings that read nothing
+-- ---- letters that read nothing
 
-reg_yields : (b : AfterOpcode) (w : Width) (n : ℕ) (p : Prefixes) (m : ℕ) (memory : Option Raw) (s : State ℕ) → operand_step (reg_encoding b w n) p m memory s ≡ outcome (Ok (known_operand (reg_encoding b w n) p m memory)) s
+reg_yields : (w : Width) (p : Prefixes) (m : ℕ) (memory : Option Raw) (s : State ℕ) →
+    operand_step (reg_encoding w) p m memory s ≡ outcome (Ok (known_operand (reg_encoding w) p m memory)) s
 unfolding operand_step
-reg_yields b w n p m memory s = grind arith
+reg_yields w p m memory s = grind arith
 
-rm_yields : (b : AfterOpcode) (w : Width) (p : Prefixes) (m : ℕ) (memory : Option Raw) (s : State ℕ) → operand_step (rm_encoding b w) p m memory s ≡ outcome (Ok (known_operand (rm_encoding b w) p m memory)) s
+rm_yields : (w : Width) (p : Prefixes) (m : ℕ) (memory : Option Raw) (s : State ℕ) →
+    operand_step (rm_encoding w) p m memory s ≡ outcome (Ok (known_operand (rm_encoding w) p m memory)) s
 unfolding operand_step
-rm_yields b w p m memory s = grind arith
+rm_yields w p m memory s = grind arith
 
--- ---- the last operand, which looks at no ModRM
-
-abbrev IsPlain : OperandEncoding → Type 0
-IsPlain c = (p : Prefixes) (m : ℕ) (memory : Option Raw) (s : State ℕ) → operand_step c p m memory s ≡ operand_step c p absent_modrm None s
-
-last_plain : (l : OperandEncoding) (p : Prefixes) → is_last l ≡ true → IsPlain (settled l 0 p)
+fixed_yields : (of_opcode : Bool) (w : Width) (n : ℕ) (p : Prefixes) (m : ℕ) (memory : Option Raw) (s : State ℕ) →
+    operand_step (fixed_encoding of_opcode w n) p m memory s ≡ outcome (Ok (known_operand (fixed_encoding of_opcode w n) p m memory)) s
 unfolding operand_step
-last_plain l p h q m memory s = grind arith
+fixed_yields of_opcode w n p m memory s = grind arith
+
+part_yields : (rm of_opcode : Bool) (w : Width) (n : ℕ) (p : Prefixes) (m : ℕ) (memory : Option Raw) (s : State ℕ) →
+    operand_step (if rm then reg_encoding w else fixed_encoding of_opcode w n) p m memory s ≡ outcome
+    (Ok (known_operand (if rm then reg_encoding w else fixed_encoding of_opcode w n) p m memory)) s
+part_yields true of_opcode w n p m memory s = reg_yields w p m memory s
+part_yields false of_opcode w n p m memory s = fixed_yields of_opcode w n p m memory s
+
+reg_settled : (w : Width) (n : ℕ) (p : Prefixes) → settled (reg_encoding w) n p ≡ reg_encoding w
+reg_settled w n p = grind arith
+
+rm_settled : (w : Width) (n : ℕ) (p : Prefixes) → settled (rm_encoding w) n p ≡ rm_encoding w
+rm_settled w n p = grind arith
+
+fixed_settled : (of_opcode : Bool) (w : Width) (n : ℕ) (p : Prefixes) → settled (fixed_encoding of_opcode w 0) n p ≡ fixed_encoding of_opcode w n
+fixed_settled of_opcode w n p = grind arith
+
+part_settled : (rm of_opcode : Bool) (w : Width) (n : ℕ) (p : Prefixes) →
+    settled (if rm then reg_encoding w else fixed_encoding of_opcode w 0) n p ≡ (if rm then reg_encoding w else fixed_encoding of_opcode w n)
+part_settled true of_opcode w n p = reg_settled w n p
+part_settled false of_opcode w n p = fixed_settled of_opcode w n p
+
+-- ---- the last operands, which look at no memory
+
+memory_free : (c : OperandEncoding) (n : ℕ) (p : Prefixes) (m : ℕ) (memory : Option Raw) (s : State ℕ) → is_field c ≡ false →
+    operand_step (settled c n p) p m memory s ≡ operand_step (settled c n p) p m None s
+unfolding operand_step
+memory_free c n p m memory s h = grind arith
 
 -- ---- the operands in their order
+
+abbrev with_size : ℕ → Operands → Operands
+with_size size operand_list = record operand_list { mem_size = size }
 
 abbrev last_put : Position → Result Pair DecodeError → State ℕ → Operands → Step Operands
 last_put Nowhere r t operand_list = pure operand_list
 last_put at r t operand_list = λ s. then_from r t (λ z. pure (put_in at z operand_list))
 
-in_order : {o : Order} (r : Result Pair DecodeError) → Named o → (t : State ℕ) (a b c : OperandEncoding) (x y : Pair) (size opcode : ℕ) (p : Prefixes) (m : ℕ) (memory : Option Raw) →
+abbrev in_place : Order → Result Pair DecodeError → State ℕ → Result Pair DecodeError → State ℕ → Pair → Pair → ℕ → Step Operands
+in_place o u t v w x y size = last_put o.last u t (put_in o.reg x (put_in o.rm y (sized o.count size))) >>= last_put o.extra v w
+
+in_order : (u v : Result Pair DecodeError) {o : Order} → Named o →
+    (t w : State ℕ) (a b c d : OperandEncoding) (x y : Pair) (size : ℕ) (p : Prefixes) (m : ℕ) (memory : Option Raw) →
     ((s : State ℕ) → operand_step a p m memory s ≡ outcome (Ok x) s) →
     ((s : State ℕ) → operand_step b p m memory s ≡ outcome (Ok y) s) →
-    (s : State ℕ) → operand_step c p m memory s ≡ outcome r t →
-    (filled_step (list_of (encodings_in o a b c)) p m memory >>= λ operand_list. pure (reading_from (reads opcode (encodings_in o a b c) size) p opcode operand_list)) s
-    ≡ (last_put o.last r t (put_in o.reg x (put_in o.rm y (sized o.count size))) >>= λ operand_list. pure (reading_with opcode p operand_list)) s
+    (s : State ℕ) → operand_step c p m memory s ≡ outcome u t → operand_step d p m memory t ≡ outcome v w →
+    (filled_step (list_of (encodings_in o a b c d)) p m memory >>= λ operand_list. pure (with_size size operand_list)) s ≡ in_place o u t v w x y size s
 unfolding filled_step operands_step
-in_order (Ok z) no_named t a b c x y size opcode p m memory ha hb s hc = refl
-in_order (Err e) no_named t a b c x y size opcode p m memory ha hb s hc = refl
-in_order r h t a b c x y size opcode p m memory ha hb s hc = simp (ha, hb, hc)
+in_order (Ok z) (Ok f) no_named t w a b c d x y size p m memory ha hb s hc hd = refl
+in_order (Ok z) (Err f) no_named t w a b c d x y size p m memory ha hb s hc hd = refl
+in_order (Err z) v no_named t w a b c d x y size p m memory ha hb s hc hd = refl
+in_order (Ok z) (Ok f) h t w a b c d x y size p m memory ha hb s hc hd = simp (ha, hb, hc, hd)
+in_order (Ok z) (Err f) h t w a b c d x y size p m memory ha hb s hc hd = simp (ha, hb, hc, hd)
+in_order (Err z) v h t w a b c d x y size p m memory ha hb s hc hd = simp (ha, hb, hc)
 
-last_is : (at : Position) (l : OperandEncoding) (p : Prefixes) (operand_list : Operands) (s : State ℕ) → last_put at (operand_step (settled l 0 p) p absent_modrm None s).answer (operand_step (settled l 0 p) p absent_modrm None s).after operand_list s ≡ last_read at l p operand_list s
-last_is at l p operand_list s = grind arith
+settled_in : {o : Order} → Named o → (n : ℕ) (p : Prefixes) (a b c d : OperandEncoding) →
+    list_of (all_settled (encodings_in o a b c d) n p) ≡ list_of (encodings_in o (settled a n p) (settled b n p) (settled c n p) (settled d n p))
+settled_in no_named n p a b c d = refl
+settled_in h n p a b c d = refl
 
--- ---- the whole encoding
+-- what is put is what is read
+abbrev put_other : Position → OperandEncoding → Prefixes → ℕ → Operands → Step Operands
+put_other Nowhere s p m operand_list = pure operand_list
+put_other at s p m operand_list = put_encoded (index_of_position at) s p m None operand_list
 
-module _ (e : FormEncoding) (n opcode : ℕ) (p : Prefixes) (m : ℕ) where
-  abbrev reg : OperandEncoding
-  reg = reg_encoding e.after_opcode e.reg n
+extra_is : (r : Result Pair DecodeError) (t : State ℕ) {o : Order} → Named o →
+    (d : OperandEncoding) (p : Prefixes) (m : ℕ) (operand_list : Operands) (s : State ℕ) →
+    (last_put o.last r t operand_list >>= last_put o.extra (operand_step d p m None t).answer (operand_step d p m None t).after) s ≡
+    (last_put o.last r t operand_list >>= put_other o.extra d p m) s
+extra_is (Ok z) t no_named d p m operand_list s = refl
+extra_is (Ok z) t h d p m operand_list s = refl
+extra_is (Err e) t no_named d p m operand_list s = refl
+extra_is (Err e) t h d p m operand_list s = refl
 
-  abbrev rm : OperandEncoding
-  rm = rm_encoding e.after_opcode e.rm
+last_is : (at : Position) (c : OperandEncoding) (p : Prefixes) (m : ℕ) (operand_list : Operands) (s : State ℕ) →
+    last_put at (operand_step c p m None s).answer (operand_step c p m None s).after operand_list s ≡ put_other at c p m operand_list s
+last_is at c p m operand_list s = grind arith
 
-  abbrev last : OperandEncoding
-  last = settled e.last 0 p
+-- ---- the whole template
 
-  abbrev encodings : OperandEncodings
-  encodings = encodings_in e.order reg rm last
+bound_once : {X Y Z : Type 0} (f : X → Y) (k : Y → Step Z) (r : Result X DecodeError) (s : State ℕ) →
+    then_from r s (λ x. k (f x)) ≡ then_from (then_from r s (λ x. pure (f x))).answer (then_from r s (λ x. pure (f x))).after k
+bound_once f k (Ok x) s = refl
+bound_once f k (Err e) s = refl
 
-  abbrev size : ℕ
-  size = size_bytes (size_at e m) opcode p
+module _ (t : Template) (n : ℕ) (p : Prefixes) (m : ℕ) (size : ℕ) where
+  abbrev encodings : List OperandEncoding
+  encodings = list_of (all_settled (template_operands t) n p)
 
-  abbrev written : Option Raw → Operands
-  written memory = placed e n p m memory (sized e.order.count size)
+  abbrev blank : Operands
+  blank = sized t.order.count size
 
-  abbrev planned : Option Raw → Step Reading
-  planned memory = filled_step (list_of encodings) p m memory >>= λ operand_list. pure (reading_from (reads opcode encodings size) p opcode operand_list)
+  abbrev others : Operands → Step Operands
+  others operand_list = other_read t.order.last t.last n p m operand_list >>= other_read t.order.extra t.extra n p m
 
-  abbrev finished : Step Operands → Step Reading
-  finished step = (step >>= last_read e.order.last e.last p) >>= λ x. pure (reading_with opcode p x)
+  encodings_are : Named t.order → encodings ≡ list_of (encodings_in t.order (reg_part t n) (rm_encoding t.rm) (settled t.last n p) (settled t.extra n p))
+  encodings_are h =
+      settled_in h n p (reg_part t 0) (rm_encoding t.rm) t.last t.extra
+      ∙ ap (λ a. list_of (encodings_in t.order a (settled (rm_encoding t.rm) n p) (settled t.last n p) (settled t.extra n p)))
+      (part_settled (somewhere t.order.rm) t.of_opcode t.reg n p)
+      ∙ ap (λ b. list_of (encodings_in t.order (reg_part t n) b (settled t.last n p) (settled t.extra n p))) (rm_settled t.rm n p)
 
-  -- the operands after memory
-  following : is_order e.order ≡ true → is_last e.last ≡ true → (r : Result (Option Raw) DecodeError) (s : State ℕ) → then_from r s planned ≡ finished ((λ _. outcome r s) >>= λ memory. pure (written memory)) s
-  following h l (Err x) s = refl
-  following h l (Ok memory) s =
-      let end : Outcome Pair = operand_step last p absent_modrm None s in
-      in_order end.answer (named_of e.order.reg e.order.rm e.order.last e.order.count h) end.after reg rm last (known_operand reg p m memory) (known_operand rm p m memory) size opcode p m memory (reg_yields e.after_opcode e.reg n p m memory) (rm_yields e.after_opcode e.rm p m memory) s (last_plain e.last p l p m memory s)
-      ∙ ap (λ (u : Outcome Operands). then_from u.answer u.after (λ operand_list. pure (reading_with opcode p operand_list))) (last_is e.order.last e.last p (written memory) s)
+  others_are : (operand_list : Operands) (s : State ℕ) → Named t.order →
+      (put_other t.order.last (settled t.last n p) p m operand_list >>= put_other t.order.extra (settled t.extra n p) p m) s ≡ others operand_list s
+  others_are operand_list s h = grind arith
 
-  -- where rm is no operand, no memory is read
-  memory_by : (test : Bool) (s : State ℕ) → somewhere e.order.rm ≡ test → order_fits e.after_opcode e.order ≡ true → allows e.after_opcode m ≡ true → read_memory p m s ≡ (if test then read_memory p m else pure None) s
-  memory_by true s i f a = refl
-  memory_by false s i f a = rw (no_memory e.after_opcode m (no_modrm e.after_opcode (somewhere e.order.reg) (rw i at f)) a) refl
+  filled_is : is_order t.order ≡ true → is_field t.last ≡ false → is_field t.extra ≡ false → (memory : Option Raw) (s : State ℕ) →
+      (filled_step encodings p m memory >>= λ operand_list. pure (with_size size operand_list)) s ≡ others (placed t n p m memory blank) s
+  filled_is h l e memory s =
+      let orders = named t.order h in
+      let one : Outcome Pair = operand_step (settled t.last n p) p m None s in
+      let two : Outcome Pair = operand_step (settled t.extra n p) p m None one.after in
+      ap (λ l. (filled_step l p m memory >>= λ operand_list. pure (with_size size operand_list)) s) (encodings_are orders)
+      ∙ in_order one.answer two.answer orders one.after two.after (reg_part t n) (rm_encoding t.rm) (settled t.last n p)
+      (settled t.extra n p) (known_operand (reg_part t n) p m memory) (known_operand (rm_encoding t.rm) p m memory) size p m memory
+      (part_yields (somewhere t.order.rm) t.of_opcode t.reg n p m memory) (rm_yields t.rm p m memory) s
+      (memory_free t.last n p m memory s l) (memory_free t.extra n p m memory one.after e)
+      ∙ extra_is one.answer one.after orders (settled t.extra n p) p m (placed t n p m memory blank) s
+      ∙ ap (λ (u : Outcome Operands). then_from u.answer u.after (put_other t.order.extra (settled t.extra n p) p m))
+      (last_is t.order.last (settled t.last n p) p m (placed t n p m memory blank) s)
+      ∙ others_are (placed t n p m memory blank) s orders
+
+  -- without an operand of rm, memory makes no difference
+  fixed_same : (of_opcode : Bool) (w : Width) (memory : Option Raw) →
+      known_operand (fixed_encoding of_opcode w n) p m memory ≡ known_operand (fixed_encoding of_opcode w n) p m None
+  fixed_same of_opcode w memory = grind arith
+
+  placed_same : (memory : Option Raw) (operand_list : Operands) → somewhere t.order.rm ≡ false →
+      placed t n p m memory operand_list ≡ placed t n p m None operand_list
+  placed_same memory operand_list h =
+      rw h (ap (λ x. put_in t.order.reg x operand_list) (fixed_same t.of_opcode t.reg memory))
+
+  module _ {X : Type 0} (k : Operands → Step X) (h : is_order t.order ≡ true) (l : is_field t.last ≡ false) (e : is_field t.extra ≡ false) where
+    abbrev planned : Option Raw → Step X
+    planned memory = filled_step encodings p m memory >>= λ operand_list. k (with_size size operand_list)
+
+    planned_is : (memory : Option Raw) (s : State ℕ) → planned memory s ≡ (others (placed t n p m memory blank) >>= k) s
+    planned_is memory s =
+        bound_once (with_size size) k (filled_step encodings p m memory s).answer (filled_step encodings p m memory s).after
+        ∙ ap (λ (u : Outcome Operands). then_from u.answer u.after k) (filled_is h l e memory s)
+
+    abbrev written : Step (Option Raw) → Step X
+    written memory = (((memory >>= λ raw. pure (placed t n p m raw blank)) >>= other_read t.order.last t.last n p m) >>=
+        other_read t.order.extra t.extra n p m) >>= k
+
+    with_rm : (r : Result (Option Raw) DecodeError) (s : State ℕ) → then_from r s planned ≡ written (λ _. outcome r s) s
+    with_rm (Err x) s = refl
+    with_rm (Ok memory) s = planned_is memory s
+
+    abbrev skipped : Option Raw → Step (Unit {0})
+    skipped memory = pure tt
+
+    without_rm : somewhere t.order.rm ≡ false → (r : Result (Option Raw) DecodeError) (s : State ℕ) →
+        then_from r s planned ≡ ((λ _. then_from r s skipped) >>= λ _. written (pure None)) s
+    without_rm nowhere (Err x) s = refl
+    without_rm nowhere (Ok memory) s = planned_is memory s ∙ ap (λ operand_list. (others operand_list >>= k) s) (placed_same memory blank nowhere)
+
+    by_rm : (rm : Bool) → somewhere t.order.rm ≡ rm → (s : State ℕ) →
+        (read_memory p m >>= planned) s ≡ (skipped_if (not rm) p m >>= λ _. written (if rm then read_memory p m else pure None)) s
+    by_rm true is s = with_rm (read_memory p m s).answer (read_memory p m s).after
+    by_rm false is s = without_rm is (read_memory p m s).answer (read_memory p m s).after
+
+    pub all_is_read : (s : State ℕ) → (read_memory p m >>= planned) s ≡ (skipped_if (not (somewhere t.order.rm)) p m >>= λ _. all_read t n p m blank >>= k) s
+    all_is_read s = by_rm (somewhere t.order.rm) refl s
+
+-- ---- at once
+
+last_same : (at : Position) (l : OperandEncoding) (n : ℕ) (p : Prefixes) (m : ℕ) (operand_list : Operands) (s : State ℕ) →
+    is_last l ≡ true → other_read at l n p m operand_list s ≡ last_read at l p operand_list s
+unfolding operand_step
+last_same at l n p m operand_list s h = grind arith
+
+no_extra : (at : Position) (l : OperandEncoding) (n : ℕ) (p : Prefixes) (m : ℕ) (r : Result Operands DecodeError) (s : State ℕ) →
+    somewhere at ≡ false → then_from r s (other_read at l n p m) ≡ outcome r s
+no_extra at l n p m (Ok x) s h = grind arith
+no_extra at l n p m (Err e) s h = refl
+
+last_from : (t : Template) (n : ℕ) (p : Prefixes) (m : ℕ) (r : Result Operands DecodeError) (s : State ℕ) → is_last t.last ≡ true →
+    then_from r s (other_read t.order.last t.last n p m) ≡ then_from r s (last_read t.order.last t.last p)
+last_from t n p m (Ok x) s h = last_same t.order.last t.last n p m x s h
+last_from t n p m (Err e) s h = refl
+
+module _ (t : Template) (n : ℕ) (p : Prefixes) (m : ℕ) where
+  all_at_once : (operand_list : Operands) (s : State ℕ) → is_last t.last ≡ true → somewhere t.order.extra ≡ false →
+      all_read t n p m operand_list s ≡ operands_read t n p m operand_list s
+  all_at_once operand_list s l e =
+      let first : Outcome Operands = leading_read t n p m operand_list s in
+      let last : Outcome Operands = then_from first.answer first.after (other_read t.order.last t.last n p m) in
+      no_extra t.order.extra t.extra n p m last.answer last.after e ∙ last_from t n p m first.answer first.after l
+
+  skips_nothing : (rm memory : Bool) (s : State ℕ) → is_memory m ≡ memory → (rm || not memory) ≡ true → skipped_if (not rm) p m s ≡ outcome (Ok tt) s
+  skips_nothing true memory s is h = refl
+  skips_nothing false false s is h = rw is refl
+  skips_nothing false true s is h = absurd (true≢false (sym h))
+
+  pub plan_is_read : (opcode : ℕ) (s : State ℕ) → is_order t.order ≡ true → is_field t.last ≡ false → is_field t.extra ≡ false →
+      is_last t.last ≡ true → somewhere t.order.extra ≡ false → (somewhere t.order.rm || not (is_memory m)) ≡ true →
+      read_plan (template_plan t n opcode p m) p m s ≡
+      (operands_read t n p m (sized t.order.count (size_bytes (size_at t m) opcode p)) >>= λ operand_list. pure (reading_with opcode p operand_list)) s
+  unfolding read_plan
+  plan_is_read opcode s h l e last extra mem =
+      let size : ℕ = size_bytes (size_at t m) opcode p in
+      let k : Operands → Step Reading = λ operand_list. pure (reading_with opcode p operand_list) in
+      all_is_read t n p m size k h l e s
+      ∙ ap (λ (u : Outcome (Unit {0})). then_from u.answer u.after (λ _. all_read t n p m (sized t.order.count size) >>= k))
+      (skips_nothing (somewhere t.order.rm) (is_memory m) s refl mem)
+      ∙ ap (λ (u : Outcome Operands). then_from u.answer u.after k) (all_at_once (sized t.order.count size) s last extra)
 
   -- the operands of reg and rm end where SIB and displacement do
-  ends_with_memory : (r : Result (Option Raw) DecodeError) (u : State ℕ) (operand_list : Operands) → (then_from r u (λ memory. pure (placed e n p m memory operand_list))).after ≡ u
+  ends_with_memory : (r : Result (Option Raw) DecodeError) (u : State ℕ) (operand_list : Operands) →
+      (then_from r u (λ memory. pure (placed t n p m memory operand_list))).after ≡ u
   ends_with_memory (Ok memory) u operand_list = refl
   ends_with_memory (Err x) u operand_list = refl
 
-  pub address_is_read : (s t : State ℕ) (r : Result Operands DecodeError) (operand_list : Operands) → order_fits e.after_opcode e.order ≡ true → allows e.after_opcode m ≡ true → outcome r t ≡ leading_read e n p m operand_list s → t ≡ (read_memory p m s).after
-  address_is_read s t r operand_list f a h =
-      let memory : Outcome (Option Raw) = (if somewhere e.order.rm then read_memory p m else pure None) s in
-      ap (λ o. o.after) h ∙ ends_with_memory memory.answer memory.after operand_list ∙ ap (λ o. o.after) (sym (memory_by (somewhere e.order.rm) s refl f a))
+  memory_by : (rm memory : Bool) (s : State ℕ) → is_memory m ≡ memory → (rm || not memory) ≡ true →
+      (if rm then read_memory p m else pure None) s ≡ read_memory p m s
+  memory_by true memory s is h = refl
+  memory_by false false s is h = rw is refl
+  memory_by false true s is h = absurd (true≢false (sym h))
 
-  pub plan_is_read : (s : State ℕ) → is_order e.order ≡ true → is_last e.last ≡ true → order_fits e.after_opcode e.order ≡ true → allows e.after_opcode m ≡ true →
-      read_plan (plan_of e n opcode p m) p m s ≡ (operands_read e n p m (sized e.order.count size) >>= λ operand_list. pure (reading_with opcode p operand_list)) s
-  unfolding read_plan
-  plan_is_read s h l f a =
-      let memory : Outcome (Option Raw) = (if somewhere e.order.rm then read_memory p m else pure None) s in
-      ap (λ plan. read_plan plan p m s) (accepted e.after_opcode m opcode size encodings a)
-      ∙ ap (λ (u : Outcome (Option Raw)). then_from u.answer u.after planned) (memory_by (somewhere e.order.rm) s refl f a)
-      ∙ following h l memory.answer memory.after
+  pub leading_ends : (s : State ℕ) (operand_list : Operands) → (somewhere t.order.rm || not (is_memory m)) ≡ true →
+      (leading_read t n p m operand_list s).after ≡ (read_memory p m s).after
+  leading_ends s operand_list h =
+      let memory : Outcome (Option Raw) = (if somewhere t.order.rm then read_memory p m else pure None) s in
+      ends_with_memory memory.answer memory.after operand_list ∙ ap (λ o. o.after) (memory_by (somewhere t.order.rm) (is_memory m) s refl h)
+
+  pub address_is_read : (s u : State ℕ) (r : Result Operands DecodeError) (operand_list : Operands) →
+      (somewhere t.order.rm || not (is_memory m)) ≡ true → outcome r u ≡ leading_read t n p m operand_list s → u ≡ (read_memory p m s).after
+  address_is_read s u r operand_list h e = ap (λ o. o.after) e ∙ leading_ends s operand_list h
 
 -- ---- in place
 
-pub encoded_at_position : (at : Position) (n : ℕ) (l : OperandEncoding) (p : Prefixes) (operand_list : Operands) (s : State ℕ) → n ≡ index_of_position at → at ≢ Nowhere → put_encoded n l p absent_modrm None operand_list s ≡ encoded_read at l p operand_list s
+pub encoded_at_position : (at : Position) (n : ℕ) (l : OperandEncoding) (p : Prefixes) (operand_list : Operands) (s : State ℕ) →
+    n ≡ index_of_position at → at ≢ Nowhere → put_encoded n l p absent_modrm None operand_list s ≡ encoded_read at l p operand_list s
 encoded_at_position at n l p operand_list s e h = grind arith
 
--- the operands of reg and rm as their encodings yield them
-pub reg_placed : (b : AfterOpcode) (w : Width) (n : ℕ) (p : Prefixes) (m : ℕ) (memory : Option Raw) → has_modrm b ≡ true → known_operand (reg_encoding b w n) p m memory ≡ reg_pair w p m
-reg_placed b w n p m memory h = grind arith
+-- the operands of reg and rm as their letters yield them
+reg_placed : (w : Width) (p : Prefixes) (m : ℕ) (memory : Option Raw) → known_operand (reg_encoding w) p m memory ≡ reg_pair w p m
+reg_placed w p m memory = grind arith
 
-pub fixed_placed : (b : AfterOpcode) (w : Width) (n : ℕ) (p : Prefixes) (m : ℕ) (memory : Option Raw) → has_register b ≡ true → known_operand (reg_encoding b w n) p m memory ≡ fixed_pair b w n p
-fixed_placed b w n p m memory h = grind arith
+fixed_placed : (of_opcode : Bool) (w : Width) (n : ℕ) (p : Prefixes) (m : ℕ) (memory : Option Raw) →
+    known_operand (fixed_encoding of_opcode w n) p m memory ≡ fixed_pair of_opcode w n p
+fixed_placed of_opcode w n p m memory = grind arith
 
-pub rm_in_memory : (b : AfterOpcode) (w : Width) (p : Prefixes) (m : ℕ) (raw : Raw) → has_modrm b ≡ true → known_operand (rm_encoding b w) p m (Some raw) ≡ shape raw
-rm_in_memory b w p m raw h = grind arith
+stack_in_memory : (w : Width) (p : Prefixes) (m : ℕ) (raw : Raw) → (not (is_stack w) || not (is_memory m)) ≡ true → is_memory m ≡ true →
+    known_operand (rm_encoding w) p m (Some raw) ≡ shape raw
+stack_in_memory w p m raw h e = grind arith
 
-abbrev pub rm_pair : Width → Prefixes → ℕ → Pair
-rm_pair width.Mm p m = memory_or (reg_spec (rm_field m) class.MM) None
-rm_pair w p m = memory_or (register_of (class_of w p) p (rm_number m p)) None
+pub rm_in_memory : (at : Position) (t : Template) (p : Prefixes) (m : ℕ) (operand_list : Operands) (r : Result Raw DecodeError)
+    (s u : State ℕ) → outcome r u ≡ read_raw p m s → is_memory m ≡ true → fits_form t m ≡ true →
+    rm_read at t.rm p m operand_list s ≡ then_from r u (λ raw. pure (put_in at (shape raw) operand_list))
+rm_in_memory at t p m operand_list (Err x) s u is e h = rw (e, ← is) refl
+rm_in_memory at t p m operand_list (Ok raw) s u is e h = rw (e, ← is) (ap (λ x. outcome (Ok (put_in at x operand_list)) u) (stack_in_memory t.rm p m raw h e))
 
-pub rm_in_register : (b : AfterOpcode) (w : Width) (p : Prefixes) (m : ℕ) → has_modrm b ≡ true → allows b m ≡ true → is_memory m ≡ false → known_operand (rm_encoding b w) p m None ≡ rm_pair w p m
-rm_in_register b w p m h a e = grind arith
+register_placed : (w : Width) (p : Prefixes) (m : ℕ) → known_operand (rm_encoding w) p m None ≡ rm_pair w p m
+register_placed w p m = grind arith
+
+pub rm_in_register : (at : Position) (w : Width) (p : Prefixes) (m : ℕ) (operand_list : Operands) (s : State ℕ) → is_memory m ≡ false →
+    rm_read at w p m operand_list s ≡ outcome (Ok (put_in at (rm_pair w p m) operand_list)) s
+rm_in_register at w p m operand_list s e = rw e (ap (λ x. outcome (Ok (put_in at x operand_list)) s) (register_placed w p m))
+
+module _ (t : Template) (n : ℕ) (p : Prefixes) (m : ℕ) (operand_list : Operands) where
+  pub without_modrm : (s : State ℕ) → somewhere t.order.rm ≡ false →
+      leading_read t n p m operand_list s ≡ outcome (Ok (put_in t.order.reg (fixed_pair t.of_opcode t.reg n p) operand_list)) s
+  without_modrm s h = rw h (ap (λ x. outcome (Ok (put_in t.order.reg x operand_list)) s) (fixed_placed t.of_opcode t.reg n p m None))
+
+  abbrev with_reg : Operands → Step Operands
+  with_reg x = pure (put_in t.order.reg (reg_pair t.reg p m) x)
+
+  reg_after : (rm : Bool) → somewhere t.order.rm ≡ rm → rm ≡ true → (r : Result (Option Raw) DecodeError) (s : State ℕ) →
+      then_from r s (λ memory. pure (placed t n p m memory operand_list)) ≡
+      ((λ _. then_from r s (λ memory. pure (put_in t.order.rm (known_operand (rm_encoding t.rm) p m memory) operand_list))) >>= with_reg) s
+  reg_after true is h (Err x) s = refl
+  reg_after true is h (Ok memory) s = ap (λ x. outcome
+      (Ok (put_in t.order.reg x (put_in t.order.rm (known_operand (rm_encoding t.rm) p m memory) operand_list))) s) (rw is (reg_placed t.reg p m memory))
+  reg_after false is h r s = absurd cc
+
+  first_read : (rm : Bool) → rm ≡ true → (s : State ℕ) → (if rm then read_memory p m else pure None) s ≡ read_memory p m s
+  first_read true h s = refl
+  first_read false h s = absurd cc
+
+  pub with_modrm : (s u : State ℕ) (r : Result (Unit {0}) DecodeError) (written : Operands) →
+      outcome (value_if_ok r written) u ≡ rm_read t.order.rm t.rm p m operand_list s → somewhere t.order.rm ≡ true →
+      leading_read t n p m operand_list s ≡ then_from (value_if_ok r written) u with_reg
+  with_modrm s u r written is h =
+      ap (λ (o : Outcome (Option Raw)). then_from o.answer o.after (λ memory. pure (placed t n p m memory operand_list)))
+      (first_read (somewhere t.order.rm) h s)
+      ∙ reg_after (somewhere t.order.rm) refl h (read_memory p m s).answer (read_memory p m s).after
+      ∙ ap (λ (o : Outcome Operands). then_from o.answer o.after with_reg) (sym is)
+
+pub elsewhere : (at : Position) → at ≢ Nowhere → somewhere at ≡ true
+elsewhere Nowhere h = absurd (h refl)
+elsewhere at h = refl

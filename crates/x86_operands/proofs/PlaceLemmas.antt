@@ -21,7 +21,8 @@ use Rattle.x86_operands.proofs.RecordLemmas.{takes_modrm}
 abbrev pub unplaced : Outcome Placed → Outcome Reading
 unplaced o = then_from o.answer o.after (λ x. pure x.0)
 
-pub unplaced_from : {X : Type 0} (r : Result X DecodeError) (t : State ℕ) (f : X → Step Placed) (g : X → Step Reading) → ((x : X) (u : State ℕ) → unplaced (f x u) ≡ g x u) → unplaced (then_from r t f) ≡ then_from r t g
+pub unplaced_from : {X : Type 0} (r : Result X DecodeError) (t : State ℕ) (f : X → Step Placed) (g : X → Step Reading) →
+    ((x : X) (u : State ℕ) → unplaced (f x u) ≡ g x u) → unplaced (then_from r t f) ≡ then_from r t g
 unplaced_from (Ok x) t f g each = each x t
 unplaced_from (Err e) t f g each = refl
 
@@ -32,7 +33,9 @@ read_is (Err e) t places = refl
 module _ (opcode_end : ℕ) (r : RowRecord) (p : Prefixes) where
   pub unplaced_record : (s : State ℕ) → unplaced (record_placed opcode_end r p s) ≡ record_step r p s
   unfolding record_placed record_step
-  unplaced_record s = unplaced_from (refuse_fault r.at_opcode s).answer (refuse_fault r.at_opcode s).after _ _ (λ _ t. unplaced_from (read_modrm r.modrm t).answer (read_modrm r.modrm t).after _ _ (λ m u. read_is (read_plan (r.plan m) p m u).answer (read_plan (r.plan m) p m u).after _))
+  unplaced_record s = unplaced_from (refuse_fault r.at_opcode s).answer (refuse_fault r.at_opcode s).after _ _
+      (λ _ t. unplaced_from (read_modrm r.modrm t).answer (read_modrm r.modrm t).after _ _
+      (λ m u. read_is (read_plan (r.plan m) p m u).answer (read_plan (r.plan m) p m u).after _))
 
   -- ---- the places, by the pieces
 
@@ -41,15 +44,23 @@ module _ (opcode_end : ℕ) (r : RowRecord) (p : Prefixes) where
     m = modrm_of r.modrm a.modrm
 
     abbrev pieces_places : State ℕ → Places
-    pieces_places s = record { opcode_end = opcode_end; address_end = place_of (s.since_mark + length a.tail_spelled.pieces.address); has_suffix = uses_suffix (r.plan m).verdict }
+    pieces_places s = record {
+      opcode_end = opcode_end;
+      address_end = place_of (s.since_mark + length a.tail_spelled.pieces.address);
+      has_suffix = uses_suffix (r.plan m).verdict;
+    }
 
-    tail_places : (t : State ℕ) → t.left ≡ a.tail ++ rest → plan_placed opcode_end (r.plan m) p m t ≡ outcome (Ok (reading, pieces_places t)) (advanced (length a.tail) t)
+    tail_places : (t : State ℕ) → t.left ≡ a.tail ++ rest →
+        plan_placed opcode_end (r.plan m) p m t ≡ outcome (Ok (reading, pieces_places t)) (advanced (length a.tail) t)
     tail_places t h =
         let pieces = a.tail_spelled.pieces in
-        let address = (takes_memory p m pieces.address pieces.memory pieces.address_spelled).takes ((pieces.immediates ++ pieces.suffix) ++ rest) t (h ∙ ap (λ l. l ++ rest) pieces.spelled ∙ append_assoc pieces.address (pieces.immediates ++ pieces.suffix) rest) in
+        let address = (takes_memory p m pieces.address pieces.memory pieces.address_spelled).takes
+        ((pieces.immediates ++ pieces.suffix) ++ rest) t
+        (h ∙ ap (λ l. l ++ rest) pieces.spelled ∙ append_assoc pieces.address (pieces.immediates ++ pieces.suffix) rest) in
         rw ((takes_tail (r.plan m) p m a.tail reading a.tail_spelled).takes rest t h, address) refl
 
-    pub row_placed : (s : State ℕ) → s.left ≡ bytes ++ rest → record_placed opcode_end r p s ≡ outcome (Ok (reading, pieces_places (advanced (length a.modrm) s))) (advanced (length bytes) s)
+    pub row_placed : (s : State ℕ) → s.left ≡ bytes ++ rest →
+        record_placed opcode_end r p s ≡ outcome (Ok (reading, pieces_places (advanced (length a.modrm) s))) (advanced (length bytes) s)
     unfolding record_placed
     row_placed s h =
         let after = advanced (length a.modrm) s in
@@ -57,10 +68,13 @@ module _ (opcode_end : ℕ) (r : RowRecord) (p : Prefixes) where
         let left : after.left ≡ a.tail ++ rest = ap (drop (length a.modrm)) split ∙ drop-append_seam a.modrm (a.tail ++ rest) in
         let all : length a.modrm + length a.tail ≡ length bytes = sym (ap length a.spelled ∙ length-append a.modrm a.tail) in
         rw (a.passed, (takes_modrm r.modrm a.modrm a.modrm_length).takes (a.tail ++ rest) s split)
-        (tail_places after left ∙ ap (outcome (Ok (reading, pieces_places after))) (advanced_twice (length a.modrm) (length a.tail) s ∙ ap (λ n. advanced n s) all))
+        (tail_places after left ∙ ap (outcome (Ok (reading, pieces_places after)))
+        (advanced_twice (length a.modrm) (length a.tail) s ∙ ap (λ n. advanced n s) all))
 
 -- what was read, and the places that were written
-pub plan_is_placed : (result : Result (Unit {0}) DecodeError) (reading : Reading) (places : Places) (opcode_end : ℕ) (plan : Plan) (p : Prefixes) (m : ℕ) (s t : State ℕ) → outcome (value_if_ok result reading) t ≡ read_plan plan p m s → OnOk result (places ≡ plan_places plan p m s opcode_end) → outcome (value_if_ok result (reading, places)) t ≡ plan_placed opcode_end plan p m s
+pub plan_is_placed : (result : Result (Unit {0}) DecodeError) (reading : Reading) (places : Places) (opcode_end : ℕ) (plan : Plan)
+    (p : Prefixes) (m : ℕ) (s t : State ℕ) → outcome (value_if_ok result reading) t ≡ read_plan plan p m s →
+    OnOk result (places ≡ plan_places plan p m s opcode_end) → outcome (value_if_ok result (reading, places)) t ≡ plan_placed opcode_end plan p m s
 plan_is_placed (Ok x) reading places opcode_end plan p m s t read at = rw (← read, at) refl
 plan_is_placed (Err e) reading places opcode_end plan p m s t read at = rw (← read) refl
 

@@ -1,17 +1,15 @@
 -- What holds of the plans of all plain forms.
-use Rattle.std.proofs.Common.{◌≡◌, ◌≢◌, ◌≤◌, inl, inr, ℕ, Err, true, false, nat_le, ◌-◌, length, take, drop, get_or, refl, sym, ap, ◌∙◌}
+use Rattle.std.proofs.Common.{◌≡◌, ◌≢◌, ◌≤◌, inl, inr, ℕ, Err, true, false, refl, sym, ap, ◌∙◌}
 use Rattle.std.specs.List.{list_all}
 use Rattle.x86_arch.specs.Reader.{State}
 use Rattle.x86_fields.specs.declared.errors.DecodeError.TheVariants.{IncompleteDecoder}
 use Rattle.x86_operands.specs.Vocabulary.{Prefixes, Form, Incomplete, Moment, Refuses, TableRow, EitherForm}
 use Rattle.x86_forms.specs.declared.Form.TheVariants as form
 use Rattle.x86_forms.specs.Groups.{is_group}
-use Rattle.x86_forms.specs.Ordinals.{first_ordinal_of}
 use Rattle.x86_operands.specs.PlanSteps.{record_step}
 use Rattle.x86_operands.specs.Asks.{immediates_width}
 use Rattle.x86_operands.specs.Forms.{form_plan, form_record, modrm_use}
 use Rattle.x86_operands.specs.Rows.{form_rows}
-use Rattle.x86_operands.specs.declared.tables.TheConstants.{ROWS, SPANS}
 use Rattle.x86_operands.proofs.RowLemmas.{HasGap, row_left_out}
 use Rattle.x86_operands.proofs.ColumnLemmas.{passes, without_gap, at_most_64, at_most_8, keeps_reg, row_fits, rows_pass}
 
@@ -44,21 +42,11 @@ unfolding form_record
 plain_narrow row p m = at_most_8 (is_group row.form) (form_plan row p m) (plain_passes row p m)
 
 -- a row of a plain form is never left out
-pub plain_read : (row : TableRow) (p : Prefixes) (s : State ℕ) → is_group row.form ≡ false → (record_step (form_record row p) p s).answer ≢ Err IncompleteDecoder
+pub plain_read : (row : TableRow) (p : Prefixes) (s : State ℕ) → is_group row.form ≡ false →
+    (record_step (form_record row p) p s).answer ≢ Err IncompleteDecoder
 unfolding form_record
 plain_read row p s plain h = by (row_left_out (form_record row p) p s h)
   where
     by : HasGap (form_record row p) p → ⊥
     by (inl e) = absurd cc
     by (inr (m, w, e)) = plain_built row p m w plain e
-
--- where the rows of a form are in the table
-pub record IsSpan (f : Form) (span : ℕ × ℕ) : Type 0 where
-  pub ordered : nat_le span.0 span.1 ≡ true
-  pub inside : nat_le span.1 (length ROWS.now) ≡ true
-  pub rows : take (span.1 - span.0) (drop span.0 ROWS.now) ≡ form_rows f
-
-pub span_at : (f : Form) (d : ℕ × ℕ) → IsSpan f (get_or SPANS.now (first_ordinal_of f) d)
-unfolding form_rows
-span_at (form.Zv_R n) d = record { ordered = refl; inside = refl; rows = refl }
-span_at f d = record { ordered = refl; inside = refl; rows = refl }

@@ -4,11 +4,13 @@ use Rattle.x86_operands.specs.Vocabulary.{DecodeError, Prefixes, Fault, ModrmUse
 use Rattle.x86_fields.specs.Steps.{Step, ◌>>=◌, next_byte}
 use Rattle.x86_fields.specs.Pieces.{EndsBetween}
 use Rattle.x86_fields.proofs.StepLemmas.{Takes, takes_pure, takes_bind, takes_err, takes_byte}
-use Rattle.x86_fields.proofs.EndLemmas.{EndsWell, IsEmpty, Only, IsByte, ends_byte, ends_pure, ends_refuse, ends_bind, ends_then, ends_map, weaken, Halts, halts_bind, halts_empty, halts_refused}
+use Rattle.x86_fields.proofs.EndLemmas.{EndsWell, IsEmpty, Only, IsByte, ends_byte, ends_pure, ends_refuse, ends_bind, ends_then, ends_map}
+use Rattle.x86_fields.proofs.EndLemmas.{weaken, Halts, halts_bind, halts_empty, halts_refused}
 use Rattle.x86_fields.proofs.PieceLemmas.{takes_map}
 use Rattle.x86_operands.specs.Plans.{RowRecord}
 use Rattle.x86_operands.specs.PlanSteps.{read_modrm, refuse_fault, read_plan, record_step, error_of}
-use Rattle.x86_operands.specs.Pieces.{SpellsTail, RefusesTail, tail_widths, modrm_width, SpellsRow, RefusesRow, at_opcode, past_opcode, BetweenRow, before, with_modrm}
+use Rattle.x86_operands.specs.Pieces.{SpellsTail, RefusesTail, tail_widths, modrm_width, SpellsRow, RefusesRow, at_opcode, past_opcode}
+use Rattle.x86_operands.specs.Pieces.{BetweenRow, before, with_modrm}
 use Rattle.x86_operands.specs.Asks.{modrm_of}
 use Rattle.x86_operands.proofs.VerdictLemmas.{Faults, Never, fault_error}
 use Rattle.x86_operands.proofs.PlanLemmas.{PlanYields, ends_plan, takes_tail, takes_tail_refused, halts_plan}
@@ -61,8 +63,16 @@ module _ (r : RowRecord) (p : Prefixes) where
   abbrev Between : List ℕ → Type 0
   Between q = BetweenRow r p q
 
-  row_yields : (modrm q : List ℕ) (m : ℕ) (a : Result Reading DecodeError) → r.at_opcode ≡ None → IsModrm u modrm m → PlanYields (r.plan m) p m q a → Yields (modrm ++ q) a
-  row_yields modrm q m (Ok reading) passed h g = record { modrm = modrm; tail = q; passed = passed; spelled = refl; modrm_length = h.0; tail_spelled = subst (λ k. SpellsTail (r.plan k) p k q reading) h.1 g }
+  row_yields : (modrm q : List ℕ) (m : ℕ) (a : Result Reading DecodeError) → r.at_opcode ≡ None → IsModrm u modrm m →
+      PlanYields (r.plan m) p m q a → Yields (modrm ++ q) a
+  row_yields modrm q m (Ok reading) passed h g = record {
+    modrm = modrm;
+    tail = q;
+    passed = passed;
+    spelled = refl;
+    modrm_length = h.0;
+    tail_spelled = subst (λ k. SpellsTail (r.plan k) p k q reading) h.1 g;
+  }
   row_yields modrm q m (Err e) passed h g = (g.0, g.1, past_opcode modrm q passed refl h.0 (subst (λ k. RefusesTail (r.plan k) p k q g.0) h.1 g.2))
 
   ends_after_fault : r.at_opcode ≡ None → EndsWell Yields Between after_fault
@@ -81,7 +91,8 @@ module _ (r : RowRecord) (p : Prefixes) where
       let skip : (l : List ℕ) → l ≡ q ++ l = λ l. ap (λ k. k ++ l) (sym h.0) in
       weaken s (λ l a g. subst (λ k. Yields k a) (skip l) g) (λ l k. subst Between (skip l) k) (ends_after_fault h.1 s))
 
-  takes_row_by : (modrm q : List ℕ) (a : Result Reading DecodeError) → r.at_opcode ≡ None → length modrm ≡ modrm_width u → Takes (after_modrm (modrm_of u modrm)) q a → Takes (record_step r p) (modrm ++ q) a
+  takes_row_by : (modrm q : List ℕ) (a : Result Reading DecodeError) → r.at_opcode ≡ None → length modrm ≡ modrm_width u →
+      Takes (after_modrm (modrm_of u modrm)) q a → Takes (record_step r p) (modrm ++ q) a
   unfolding record_step
   takes_row_by modrm q a passed e t = takes_bind (refuse_fault r.at_opcode) (λ _. after_fault) [] (modrm ++ q) tt a (rw passed (takes_pure (Ok tt)))
       (takes_bind (read_modrm u) after_modrm modrm q (modrm_of u modrm) a (takes_modrm u modrm e) t)
@@ -89,7 +100,8 @@ module _ (r : RowRecord) (p : Prefixes) where
   -- the pieces of a row are taken
   pub takes_row : (q : List ℕ) (reading : Reading) → SpellsRow r p q reading → Takes (record_step r p) q (Ok reading)
   takes_row q reading s = subst (λ l. Takes (record_step r p) l (Ok reading)) (sym s.spelled)
-      (takes_row_by s.modrm s.tail (Ok reading) s.passed s.modrm_length (takes_tail (r.plan (modrm_of u s.modrm)) p (modrm_of u s.modrm) s.tail reading s.tail_spelled))
+      (takes_row_by s.modrm s.tail (Ok reading) s.passed s.modrm_length
+      (takes_tail (r.plan (modrm_of u s.modrm)) p (modrm_of u s.modrm) s.tail reading s.tail_spelled))
 
   pub takes_row_refused : (q : List ℕ) (fault : Fault) → RefusesRow r p q fault → Takes (record_step r p) q (Err (error_of fault))
   unfolding record_step
@@ -108,5 +120,6 @@ module _ (r : RowRecord) (p : Prefixes) where
   halts_row q (before e) = subst (Halts (record_step r p)) (sym e) (halts_empty (record_step r p) ends_row)
   halts_row q (with_modrm modrm tail h long k) =
       let m : ℕ = modrm_of u modrm in
-      let tail_halts : Halts after_fault (modrm ++ tail) = halts_bind (read_modrm u) after_modrm modrm tail m (takes_modrm u modrm long) (halts_plan (r.plan m) p m tail k) in
+      let tail_halts : Halts after_fault (modrm ++ tail) =
+      halts_bind (read_modrm u) after_modrm modrm tail m (takes_modrm u modrm long) (halts_plan (r.plan m) p m tail k) in
       subst (Halts (record_step r p)) (sym h) (halts_by (modrm ++ tail) tail_halts r.at_opcode refl)

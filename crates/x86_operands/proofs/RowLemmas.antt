@@ -9,7 +9,8 @@ use Rattle.x86_fields.proofs.EndLemmas.{Ends, settles, runs_out, longest}
 use Rattle.x86_operands.specs.Plans.{RowRecord}
 use Rattle.x86_operands.specs.PlanSteps.{record_step, error_of}
 use Rattle.x86_operands.specs.Asks.{modrm_of}
-use Rattle.x86_operands.specs.Pieces.{SpellsRow, RefusesTail, at_modrm, after_address, after_suffix, no_name, RefusesRow, at_opcode, past_opcode, BetweenRow, IsReadRow, IsRefusedRow, IsOpenRow}
+use Rattle.x86_operands.specs.Pieces.{SpellsRow, RefusesTail, at_modrm, after_address, after_suffix, no_name, RefusesRow, at_opcode}
+use Rattle.x86_operands.specs.Pieces.{past_opcode, BetweenRow, IsReadRow, IsRefusedRow, IsOpenRow}
 use Rattle.x86_operands.proofs.RecordLemmas.{RowYields, ends_row, takes_row, takes_row_refused, halts_row}
 
 -- none of the faults is one of these errors
@@ -29,7 +30,8 @@ module _ (r : RowRecord) (p : Prefixes) where
     abbrev Settled : Result Reading DecodeError → Type 0
     Settled a = (bytes rest : List ℕ) × (s.left ≡ bytes ++ rest) × RowYields r p bytes a × ((record_step r p s).after ≡ advanced (length bytes) s)
 
-    settled_by : (a : Result Reading DecodeError) → (record_step r p s).answer ≡ a → a ≢ Err ExhaustedInput → Ends (RowYields r p) (BetweenRow r p) (record_step r p) s → Settled a
+    settled_by : (a : Result Reading DecodeError) → (record_step r p s).answer ≡ a → a ≢ Err ExhaustedInput →
+        Ends (RowYields r p) (BetweenRow r p) (record_step r p) s → Settled a
     settled_by a h final (settles bytes rest b beginning takes _ yields) =
         let took : record_step r p s ≡ outcome b (advanced (length bytes) s) = takes.takes rest s beginning in
         (bytes, rest, beginning, subst (RowYields r p bytes) (sym (ap (λ o. o.answer) took) ∙ h) yields, ap (λ o. o.after) took)
@@ -47,7 +49,8 @@ module _ (r : RowRecord) (p : Prefixes) where
         let fault = took.3 in
         record { fault = fault.0; named = fault.1; bytes = took.0; rest = took.1; beginning = took.2; refuses = fault.2; taken = took.4 }
 
-    open_by : (record_step r p s).answer ≡ Err ExhaustedInput → Ends (RowYields r p) (BetweenRow r p) (record_step r p) s → IsOpenRow r p s (record_step r p s).after
+    open_by : (record_step r p s).answer ≡ Err ExhaustedInput → Ends (RowYields r p) (BetweenRow r p) (record_step r p) s →
+        IsOpenRow r p s (record_step r p s).after
     open_by h (settles bytes rest b beginning takes final yields) =
         absurd (final (sym (ap (λ o. o.answer) (takes.takes rest s beginning)) ∙ h))
     open_by h (runs_out bytes rest beginning between runs_out_there) = record {
@@ -62,10 +65,12 @@ module _ (r : RowRecord) (p : Prefixes) where
     pub row_open : (record_step r p s).answer ≡ Err ExhaustedInput → IsOpenRow r p s (record_step r p s).after
     row_open h = open_by h (ends_row r p s)
 
-    pub row_wherever : (bytes rest : List ℕ) (reading : Reading) → s.left ≡ bytes ++ rest → SpellsRow r p bytes reading → record_step r p s ≡ outcome (Ok reading) (advanced (length bytes) s)
+    pub row_wherever : (bytes rest : List ℕ) (reading : Reading) → s.left ≡ bytes ++ rest → SpellsRow r p bytes reading →
+        record_step r p s ≡ outcome (Ok reading) (advanced (length bytes) s)
     row_wherever bytes rest reading beginning spelled = (takes_row r p bytes reading spelled).takes rest s beginning
 
-    pub row_refuses : (bytes rest : List ℕ) (fault : Fault) → s.left ≡ bytes ++ rest → RefusesRow r p bytes fault → record_step r p s ≡ outcome (Err (error_of fault)) (advanced (length bytes) s)
+    pub row_refuses : (bytes rest : List ℕ) (fault : Fault) → s.left ≡ bytes ++ rest → RefusesRow r p bytes fault →
+        record_step r p s ≡ outcome (Err (error_of fault)) (advanced (length bytes) s)
     row_refuses bytes rest fault beginning refuses = (takes_row_refused r p bytes fault refuses).takes rest s beginning
 
     -- ---- which errors come

@@ -1,5 +1,6 @@
 -- What the pieces of a row yield: tied slots and operands, and the shape of the raw fields.
-use Rattle.std.proofs.Common.{◌≡◌, ℕ, zero, suc, ◌<◌, ◌≤◌, true, List, [], ◌∷◌, length, Option, Some, None, Ok, slice_index_or, refl, sym, ap, subst, ◌∙◌, arith}
+use Rattle.std.proofs.Common.{◌≡◌, ℕ, zero, suc, ◌<◌, ◌≤◌, true, List, [], ◌∷◌, length, Option, Some, None, Ok, slice_index_or, refl, sym}
+use Rattle.std.proofs.Common.{ap, subst, ◌∙◌, arith}
 use Rattle.x86_operands.specs.Vocabulary.{Prefixes, Raw, Slot, Operand, OperandEncoding, OperandEncodings, Plan, Reading}
 use Rattle.x86_arch.specs.Reader.{State}
 use Rattle.x86_operands.specs.declared.operands.Slot.TheVariants as slots
@@ -7,7 +8,8 @@ use Rattle.x86_operands.specs.declared.operands.Operand.TheVariants as operands
 use Rattle.x86_operands.specs.Operands.{shape}
 use Rattle.x86_operands.specs.Plans.{RowRecord, list_of}
 use Rattle.x86_operands.specs.PlanSteps.{pair_at, four_of, record_step}
-use Rattle.x86_operands.specs.Pieces.{is_decoded, suits, slot_read, operand_read, AreTied, is_modrm_encoding, names_modrm, encodings_of, HasShapeAt, operand_from, SpellsOperands, SpellsMemory, SpellsRow}
+use Rattle.x86_operands.specs.Pieces.{is_decoded, suits, slot_read, operand_read, AreTied, is_modrm_encoding, names_modrm, encodings_of}
+use Rattle.x86_operands.specs.Pieces.{HasShapeAt, operand_from, SpellsOperands, SpellsMemory, SpellsRow}
 use Rattle.x86_operands.specs.Asks.{modrm_of}
 use Rattle.x86_operands.proofs.RowLemmas.{row_read}
 
@@ -36,25 +38,31 @@ cons_tied : (x : Slot × Operand) (xs : List (Slot × Operand)) → IsTied x →
 cons_tied x xs h t zero below = h
 cons_tied x xs h t (suc k) below = t k (omega arith)
 
-operands_tied : (ss : List OperandEncoding) (p : Prefixes) (m : ℕ) (memory : Option Raw) (bytes : List ℕ) (operand_pairs : List (Slot × Operand)) → SpellsOperands ss p m memory bytes operand_pairs → (length operand_pairs ≡ length ss) × pairs_tied operand_pairs
+operands_tied : (ss : List OperandEncoding) (p : Prefixes) (m : ℕ) (memory : Option Raw) (bytes : List ℕ)
+    (operand_pairs : List (Slot × Operand)) → SpellsOperands ss p m memory bytes operand_pairs → (length operand_pairs ≡ length ss) × pairs_tied operand_pairs
 operands_tied [] p m memory bytes operand_pairs h = (ap length h.1, λ k below. absurd (let n : length operand_pairs ≡ 0 = ap length h.1 in omega arith))
 operands_tied (s ∷ rest) p m memory bytes operand_pairs h =
     let t = operands_tied rest p m memory h.tail h.others h.tail_spelled in
-    let more : length h.others ≡ length rest = t.0 in
-    (ap length h.yields ∙ omega arith, subst pairs_tied (sym h.yields) (cons_tied (operand_from s p m memory h.immediate) h.others (operand_tied s p m memory h.immediate) t.1))
+    let more : length h.others ≡ length rest = t.0 in (
+      ap length h.yields ∙ omega arith,
+      subst pairs_tied (sym h.yields)
+          (cons_tied (operand_from s p m memory h.immediate) h.others (operand_tied s p m memory h.immediate) t.1),
+    )
 
 at_most_four : (ss : OperandEncodings) → length (list_of ss) ≤ 4
 at_most_four ss = grind arith
 
 -- ---- ModRM's memory operand
 
-modrm_yields : (s : OperandEncoding) (p : Prefixes) (m : ℕ) (raw : Raw) (bytes : List ℕ) → is_modrm_encoding s ≡ true → operand_from s p m (Some raw) bytes ≡ shape raw
+modrm_yields : (s : OperandEncoding) (p : Prefixes) (m : ℕ) (raw : Raw) (bytes : List ℕ) → is_modrm_encoding s ≡ true →
+    operand_from s p m (Some raw) bytes ≡ shape raw
 modrm_yields s p m raw bytes e = grind arith
 
 abbrev HasShape : List (Slot × Operand) → ℕ → Raw → Type 0
 HasShape xs k raw = (k < length xs) × (pair_at xs k ≡ shape raw)
 
-memory_at : (ss : List OperandEncoding) (p : Prefixes) (m : ℕ) (raw : Raw) (bytes : List ℕ) (operand_pairs : List (Slot × Operand)) (k : ℕ) → SpellsOperands ss p m (Some raw) bytes operand_pairs → names_modrm ss k ≡ true → HasShape operand_pairs k raw
+memory_at : (ss : List OperandEncoding) (p : Prefixes) (m : ℕ) (raw : Raw) (bytes : List ℕ) (operand_pairs : List (Slot × Operand))
+    (k : ℕ) → SpellsOperands ss p m (Some raw) bytes operand_pairs → names_modrm ss k ≡ true → HasShape operand_pairs k raw
 memory_at [] p m raw bytes operand_pairs k h e = absurd cc
 memory_at (s ∷ rest) p m raw bytes operand_pairs zero h e =
     subst (λ l. HasShape l zero raw) (sym h.yields) (omega arith, modrm_yields s p m raw h.immediate e)
@@ -64,7 +72,8 @@ memory_at (s ∷ rest) p m raw bytes operand_pairs (suc k) h e =
     subst (λ l. HasShape l (suc k) raw) (sym h.yields) (omega arith, t.1)
 
 -- 67 of the raw fields is that of the prefixes
-same_address_size : (p : Prefixes) (m : ℕ) (bytes : List ℕ) (memory : Option Raw) (raw : Raw) → SpellsMemory p m bytes memory → memory ≡ Some raw → raw.address_size ≡ p.address_size
+same_address_size : (p : Prefixes) (m : ℕ) (bytes : List ℕ) (memory : Option Raw) (raw : Raw) → SpellsMemory p m bytes memory →
+    memory ≡ Some raw → raw.address_size ≡ p.address_size
 same_address_size p m bytes None raw h e = absurd cc
 same_address_size p m bytes (Some other) raw h e =
     let same : other ≡ raw = cc in
@@ -104,7 +113,8 @@ module _ (r : RowRecord) (p : Prefixes) (bytes : List ℕ) (reading : Reading) (
   plan = r.plan m
 
   tied : (length operand_pairs ≡ length (list_of (plan).encodings)) × pairs_tied operand_pairs
-  tied = operands_tied (list_of (plan).encodings) p m row_spelled.tail_spelled.pieces.memory row_spelled.tail_spelled.pieces.immediates operand_pairs row_spelled.tail_spelled.pieces.immediates_spelled
+  tied = operands_tied (list_of (plan).encodings) p m row_spelled.tail_spelled.pieces.memory row_spelled.tail_spelled.pieces.immediates
+      operand_pairs row_spelled.tail_spelled.pieces.immediates_spelled
 
   counts : reading.count ≡ length operand_pairs
   counts = ap (λ x. x.count) row_spelled.tail_spelled.yields
@@ -125,7 +135,8 @@ module _ (r : RowRecord) (p : Prefixes) (bytes : List ℕ) (reading : Reading) (
   spelled_tied = record {
     few = let c = counts in let f = few_pairs in omega arith;
     decoded = λ k below. ap is_decoded (operand_here k) ∙ (tied.1 k (let c = counts in omega arith)).0;
-    suited = λ k below. ap (λ o. suits (slot_read reading k) o) (operand_here k) ∙ ap (λ s. suits s (pair_at operand_pairs k).1) (slot_here k) ∙ (tied.1 k (let c = counts in omega arith)).1;
+    suited = λ k below. ap (λ o. suits (slot_read reading k) o) (operand_here k)
+        ∙ ap (λ s. suits s (pair_at operand_pairs k).1) (slot_here k) ∙ (tied.1 k (let c = counts in omega arith)).1;
     empty_slots = λ k le. slot_here k ∙ ap (λ x. x.0) (nothing_here k le);
     empty_operands = λ k le. operand_here k ∙ ap (λ x. x.1) (nothing_here k le);
   }
@@ -133,12 +144,16 @@ module _ (r : RowRecord) (p : Prefixes) (bytes : List ℕ) (reading : Reading) (
   module _ (raw : Raw) (memory : row_spelled.tail_spelled.pieces.memory ≡ Some raw) where
     -- 67 of the raw fields is that of the prefixes
     pub memory_size_is : raw.address_size ≡ p.address_size
-    memory_size_is = same_address_size p m row_spelled.tail_spelled.pieces.address row_spelled.tail_spelled.pieces.memory raw row_spelled.tail_spelled.pieces.address_spelled memory
+    memory_size_is = same_address_size p m row_spelled.tail_spelled.pieces.address row_spelled.tail_spelled.pieces.memory raw
+        row_spelled.tail_spelled.pieces.address_spelled memory
 
     -- the slot and the operand, where an operand encoding names the memory of ModRM
     pub memory_is_shape : (k : ℕ) → names_modrm (encodings_of r p bytes reading row_spelled) k ≡ true → HasShapeAt reading k raw
     memory_is_shape k named =
-        let shapes : HasShape operand_pairs k raw = memory_at (list_of (plan).encodings) p m raw row_spelled.tail_spelled.pieces.immediates operand_pairs k (subst (λ o. SpellsOperands (list_of (plan).encodings) p m o row_spelled.tail_spelled.pieces.immediates operand_pairs) memory row_spelled.tail_spelled.pieces.immediates_spelled) named in
+        let shapes : HasShape operand_pairs k raw = memory_at
+        (list_of (plan).encodings) p m raw row_spelled.tail_spelled.pieces.immediates operand_pairs k
+        (subst (λ o. SpellsOperands (list_of (plan).encodings) p m o row_spelled.tail_spelled.pieces.immediates operand_pairs) memory
+        row_spelled.tail_spelled.pieces.immediates_spelled) named in
         let within : k < length operand_pairs = shapes.0 in
         record {
           below = let c = counts in omega arith;

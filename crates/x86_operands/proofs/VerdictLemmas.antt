@@ -1,5 +1,6 @@
 -- The refusal of a plan at its moment, and the opcode that a suffix names.
-use Rattle.std.proofs.Common.{◌≡◌, ◌≢◌, ℕ, Bool, true, false, if◌then◌else◌, List, [], ◌∷◌, ◌++◌, length, Option, Some, None, Result, Ok, Err, refl, sym, ap, subst, ◌∙◌, arith}
+use Rattle.std.proofs.Common.{◌≡◌, ◌≢◌, ℕ, Bool, true, false, if◌then◌else◌, List, [], ◌∷◌, ◌++◌, length, Option, Some, None, Result, Ok}
+use Rattle.std.proofs.Common.{Err, refl, sym, ap, subst, ◌∙◌, arith}
 use Rattle.std.proofs.lemmas.List.{append-nil, nil_from_length}
 use Rattle.std.specs.Option.{option_map_or}
 use Rattle.x86_operands.specs.Vocabulary.{DecodeError, Moment, Fault, BadOpcode, Verdict, Accepts, NamedBySuffix, Refuses}
@@ -34,8 +35,10 @@ IsVerdict v at q (Err e) = (q ≡ []) × Faults (λ fault. v ≡ Refuses fault a
 one_moment : (a b : Moment) → same_moment a b ≡ true → a ≡ b
 one_moment a b e = grind arith
 
-verdict_by : (test : Bool) (f : Fault) (moment at : Moment) → same_moment moment at ≡ test → EndsWell (IsVerdict (Refuses f moment) at) Never (if test then refuse (error_of f) else pure tt)
-verdict_by true f moment at e = ends_refuse (IsVerdict (Refuses f moment) at) Never (error_of f) (fault_error f) (refl, (f, refl, ap (λ a. Refuses f a) (one_moment moment at e)))
+verdict_by : (test : Bool) (f : Fault) (moment at : Moment) → same_moment moment at ≡ test →
+    EndsWell (IsVerdict (Refuses f moment) at) Never (if test then refuse (error_of f) else pure tt)
+verdict_by true f moment at e = ends_refuse (IsVerdict (Refuses f moment) at) Never (error_of f) (fault_error f)
+    (refl, (f, refl, ap (λ a. Refuses f a) (one_moment moment at e)))
 verdict_by false f moment at e = ends_pure (IsVerdict (Refuses f moment) at) Never tt (refl, e)
 
 pub ends_verdict : (v : Verdict) (at : Moment) → EndsWell (IsVerdict v at) Never (refuse_at v at)
@@ -73,14 +76,16 @@ abbrev pub IsNamed : Verdict → ℕ → List ℕ → Result ℕ DecodeError →
 IsNamed v opcode q (Ok o) = (length q ≡ suffix_width v) × (opcode_by v opcode q ≡ Some o)
 IsNamed v opcode q (Err e) = (length q ≡ suffix_width v) × (e ≡ error_of BadOpcode) × (v ≡ NamedBySuffix) × (opcode_by v opcode q ≡ None)
 
-named : (opcode : ℕ) (b : ℕ) (q : List ℕ) → q ≡ b ∷ [] → (o : Option ℕ) → suffix_opcode b ≡ o → EndsWell (λ l r. IsNamed NamedBySuffix opcode (q ++ l) r) (λ l. IsEmpty (q ++ l)) (option_map_or pure o (refuse InvalidOpcode))
+named : (opcode : ℕ) (b : ℕ) (q : List ℕ) → q ≡ b ∷ [] → (o : Option ℕ) → suffix_opcode b ≡ o →
+    EndsWell (λ l r. IsNamed NamedBySuffix opcode (q ++ l) r) (λ l. IsEmpty (q ++ l)) (option_map_or pure o (refuse InvalidOpcode))
 named opcode b q h None e = ends_refuse (λ l r. IsNamed NamedBySuffix opcode (q ++ l) r) (λ l. IsEmpty (q ++ l)) (error_of BadOpcode) (fault_error BadOpcode)
     (let whole : q ++ [] ≡ b ∷ [] = append-nil q ∙ h in (ap length whole, refl, refl, ap (opcode_by NamedBySuffix opcode) whole ∙ e))
 named opcode b q h (Some o) e = ends_pure (λ l r. IsNamed NamedBySuffix opcode (q ++ l) r) (λ l. IsEmpty (q ++ l)) o
     (let whole : q ++ [] ≡ b ∷ [] = append-nil q ∙ h in (ap length whole, ap (opcode_by NamedBySuffix opcode) whole ∙ e))
 
 pub ends_opcode : (v : Verdict) (opcode : ℕ) → EndsWell (IsNamed v opcode) IsEmpty (read_opcode v opcode)
-ends_opcode NamedBySuffix opcode = ends_then IsByte IsEmpty (IsNamed NamedBySuffix opcode) IsEmpty next_byte (λ b. option_map_or pure (suffix_opcode b) (refuse InvalidOpcode)) ends_byte (λ q e. e)
+ends_opcode NamedBySuffix opcode = ends_then IsByte IsEmpty (IsNamed NamedBySuffix opcode) IsEmpty next_byte
+    (λ b. option_map_or pure (suffix_opcode b) (refuse InvalidOpcode)) ends_byte (λ q e. e)
     (λ q b h. named opcode b q h (suffix_opcode b) refl)
 ends_opcode v opcode = ends_pure (IsNamed v opcode) IsEmpty opcode (refl, refl)
 
@@ -96,9 +101,11 @@ takes_opcode NamedBySuffix opcode o (b ∷ []) e h =
 takes_opcode NamedBySuffix opcode o q e h = absurd (omega arith)
 takes_opcode v opcode o q e h = takes_itself opcode o q e h
 
-pub takes_unnamed : (v : Verdict) (opcode : ℕ) (q : List ℕ) → v ≡ NamedBySuffix → length q ≡ suffix_width v → opcode_by v opcode q ≡ None → Takes (read_opcode v opcode) q (Err (error_of BadOpcode))
+pub takes_unnamed : (v : Verdict) (opcode : ℕ) (q : List ℕ) → v ≡ NamedBySuffix → length q ≡ suffix_width v → opcode_by v opcode q ≡ None →
+    Takes (read_opcode v opcode) q (Err (error_of BadOpcode))
 takes_unnamed NamedBySuffix opcode (b ∷ []) is e h =
     let none : suffix_opcode b ≡ None = h in
-    takes_bind next_byte (λ b. option_map_or pure (suffix_opcode b) (refuse InvalidOpcode)) (b ∷ []) [] b (Err (error_of BadOpcode)) (takes_byte b) (rw none (takes_pure (Err (error_of BadOpcode))))
+    takes_bind next_byte (λ b. option_map_or pure (suffix_opcode b) (refuse InvalidOpcode)) (b ∷ []) [] b (Err (error_of BadOpcode))
+    (takes_byte b) (rw none (takes_pure (Err (error_of BadOpcode))))
 takes_unnamed NamedBySuffix opcode q is e h = absurd (omega arith)
 takes_unnamed v opcode q is e h = cc

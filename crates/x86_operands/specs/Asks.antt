@@ -2,10 +2,9 @@
 use Rattle.std.specs.Prelude.{ℕ, Bool, true, false, Option, List, [], ◌∷◌, map}
 use Rattle.std.specs.Int.{byte_len}
 use Rattle.std.specs.Option.{option_map_or}
-use Rattle.x86_operands.specs.Vocabulary.{Prefixes, Verdict, NamedBySuffix, OperandEncodings, ModrmUse, Absent, EitherForm, Registers, Plan, Ask, RecordAt, FormEncoding, OperandEncoding, is_memory, absent_modrm, as_register}
+use Rattle.x86_operands.specs.Vocabulary.{Verdict, NamedBySuffix, OperandEncodings, ModrmUse, Absent, EitherForm, Registers, Plan, Ask}
+use Rattle.x86_operands.specs.Vocabulary.{RecordAt, OperandEncoding, Position, Nowhere, is_memory, absent_modrm, as_register}
 use Rattle.x86_fields.specs.Pieces.{total, option_bytes}
-use Rattle.x86_opcodes.specs.Names.{Invalid}
-use Rattle.x86_operands.specs.Encodings.{plan_of, use_of}
 use Rattle.x86_operands.specs.Plans.{RowRecord, list_of}
 use Rattle.x86_operands.specs.PlanSteps.{immediate_read}
 
@@ -20,6 +19,11 @@ uses_suffix verdict = false
 -- how many bytes of immediate an operand encoding has
 abbrev pub immediate_width : OperandEncoding → ℕ
 immediate_width s = option_map_or (λ i. byte_len i.0) (immediate_read s) 0
+
+-- that of an operand at a position, if it is somewhere
+abbrev pub part_width : Position → OperandEncoding → ℕ
+part_width Nowhere s = 0
+part_width at s = immediate_width s
 
 -- how many bytes the immediates have together; those of an absolute address count
 abbrev pub immediates_width : OperandEncodings → ℕ
@@ -48,11 +52,6 @@ plan_ask usage m plan = record {
   suffix = uses_suffix plan.verdict;
 }
 
--- what a line of the operand encodings has at a ModRM byte that is used so is what its plan has there. The number of the
--- opcode byte and the operation make no difference
-abbrev pub encoding_ask : FormEncoding → Prefixes → ℕ → Ask
-encoding_ask e p m = plan_ask (use_of e.after_opcode) m (plan_of e 0 Invalid p m)
-
 -- what a row has at a ModRM byte
 unfoldable pub ask_of : RowRecord → ℕ → Ask
 ask_of r m = plan_ask r.modrm (used_modrm r.modrm m) (r.plan (used_modrm r.modrm m))
@@ -61,7 +60,7 @@ ask_of r m = plan_ask r.modrm (used_modrm r.modrm m) (r.plan (used_modrm r.modrm
 unfoldable pub record_at : RowRecord → Option ℕ → RecordAt
 record_at r modrm = record {
   at_opcode = r.at_opcode;
-  usage = r.modrm;
   modrm = modrm_of r.modrm (option_bytes modrm);
-  plan = r.plan (modrm_of r.modrm (option_bytes modrm));
+  ask = plan_ask r.modrm (modrm_of r.modrm (option_bytes modrm)) (r.plan (modrm_of r.modrm (option_bytes modrm)));
+  verdict = (r.plan (modrm_of r.modrm (option_bytes modrm))).verdict;
 }

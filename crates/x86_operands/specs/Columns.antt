@@ -3,7 +3,8 @@
 -- letters of operands mean is in PlanSteps. Source: Intel SDM volume 2, appendix A.4 (the columns of its tables of opcode
 -- extensions).
 use Rattle.std.specs.Prelude.{ℕ, nat_le, ◌==◌, Bool, true, not, ◌&&◌, ◌||◌, if◌then◌else◌, List, [], ◌∷◌, slice_index_or, unwrap_or}
-use Rattle.x86_operands.specs.Vocabulary.{Prefixes, TableRow, BadOpcode, AtModRM, Plan, reg_field, rm_field, is_memory, operand_size, address_size, has_r, has_w, has_b, repnz, rep}
+use Rattle.x86_operands.specs.Vocabulary.{Prefixes, TableRow, BadOpcode, AtModRM, Plan, reg_field, rm_field, is_memory, operand_size}
+use Rattle.x86_operands.specs.Vocabulary.{address_size, has_r, has_w, has_b, repnz, rep}
 use Rattle.x86_operands.specs.RowVocabulary.{ByReg, ByRm, Bytes, FormRow, Memory, Name, Names, Of, Own, Place, Reg, Register, Rm, RowSize, When}
 use Rattle.x86_operands.specs.Words.{otherwise}
 use Rattle.x86_opcodes.specs.Names.{Invalid}

@@ -1,16 +1,14 @@
 -- The records of the plain forms: what each has after its opcode byte, and what it yields.
-use Rattle.std.specs.Prelude.{ℕ, false, List, [], ◌∷◌, None, IsTrue, ◌≡◌, ⊤}
-use Rattle.x86_operands.specs.Vocabulary.{Form, Prefixes, TableRow, ModrmUse, Absent, EitherForm, Plan, AfterOpcode, RegGroup, FormEncoding}
+use Rattle.std.specs.Prelude.{ℕ, Bool, true, false, List, [], ◌∷◌, None, ◌≡◌, ⊤}
+use Rattle.x86_operands.specs.Vocabulary.{Form, Prefixes, TableRow, ModrmUse, Absent, EitherForm, Plan, After, Template}
 use Rattle.x86_operands.specs.RowVocabulary.{Place, Bare, FormRow}
 use Rattle.x86_operands.specs.Plans.{RowRecord}
 use Rattle.x86_operands.specs.Columns.{choose, plan_of_row}
 use Rattle.x86_operands.specs.Rows.{form_rows}
+use Rattle.x86_operands.specs.Templates.{is_read_at, template_plan}
 use Rattle.x86_forms.specs.Groups.{is_group}
-use Rattle.x86_forms.specs.Words.{carried}
 use Rattle.x86_forms.specs.declared.Form.TheVariants as form
-use Rattle.x86_operands.specs.declared.encodings.AfterOpcode.TheVariants as after_opcode
-use Rattle.x86_operands.specs.declared.encodings.RegGroup.TheVariants as group
-use Rattle.x86_operands.specs.Encodings.{is_described, plan_of}
+use Rattle.x86_forms.specs.declared.words.WordRow.{WordRow}
 
 abbrev pub place_use : Place → ModrmUse
 place_use Bare = Absent
@@ -32,36 +30,30 @@ form_plan row p m = plan_of_row (choose (form_rows row.form) row false p m) row 
 unfoldable pub form_record : TableRow → Prefixes → RowRecord
 form_record row p = record { at_opcode = None; modrm = modrm_use row.form; plan = λ m. form_plan row p m }
 
--- ---- what the table of operand encodings says of each form
+-- ---- how a form goes on after its opcode byte
 
--- the row of a form in an opcode map, with this opcode
-abbrev pub row_with : ℕ → Form → TableRow
-row_with opcode f = record { opcode = opcode; form = f }
+-- the groups that a search reads alone: mod isn't looked at, or the opcode byte may be refused
+abbrev pub is_searched : Form → Bool
+is_searched form.Rq_Cq_0 = true
+is_searched form.Rq_Dq_0 = true
+is_searched form.Cq_Rq_0 = true
+is_searched form.Dq_Rq_0 = true
+is_searched form.ModRM_0xf30f3af0 = true
+is_searched f = false
 
--- the encoding says what the form's rows say, unless no line describes them
-abbrev pub Describes : FormEncoding → Form → Type 0
-Describes e f = IsTrue (is_described e.after_opcode) → (o m : ℕ) (p : Prefixes) → plan_of e (carried f) o p m ≡ form_plan (row_with o f) p m
+abbrev pub Follows : After → Form → Type 0
+Follows After.Nothing f = (is_group f ≡ false) × (modrm_use f ≡ Absent)
+Follows After.Fields f = (is_group f ≡ false) × (modrm_use f ≡ EitherForm)
+Follows After.Cells f = (is_group f ≡ true) × (is_searched f ≡ false)
+Follows After.Search f = ⊤
 
--- the form of a group
-abbrev pub group_form : RegGroup → Form
-group_form group.G80 = form.ModRM_0x80
-group_form group.G81 = form.ModRM_0x81
-group_form group.G83 = form.ModRM_0x83
-group_form group.C0 = form.ModRM_0xc0
-group_form group.C1 = form.ModRM_0xc1
-group_form group.C6 = form.ModRM_0xc6
-group_form group.C7 = form.ModRM_0xc7
-group_form group.D0 = form.ModRM_0xd0
-group_form group.D1 = form.ModRM_0xd1
-group_form group.D2 = form.ModRM_0xd2
-group_form group.D3 = form.ModRM_0xd3
-group_form group.F6 = form.ModRM_0xf6
-group_form group.F7 = form.ModRM_0xf7
-group_form group.FE = form.ModRM_0xfe
-group_form group.FF = form.ModRM_0xff
+abbrev pub is_direct : After → Bool
+is_direct After.Nothing = true
+is_direct After.Fields = true
+is_direct after = false
 
--- a line of a group names the group of its form
-abbrev pub Belongs : AfterOpcode → Form → Type 0
-Belongs (after_opcode.ByReg g) f = f ≡ group_form g
-Belongs after_opcode.Group f = ⊤
-Belongs b f = is_group f ≡ false
+-- A row of a plain form that is read at once at a ModRM byte: its template says the plan there.
+pub record IsPlainRow (found : WordRow) (m : ℕ) (t : Template) : Type 0 where
+  pub plain : is_group found.row.form ≡ false
+  pub fits : is_read_at t m ≡ true
+  pub plan : (p : Prefixes) → template_plan t found.number found.row.opcode p m ≡ form_plan found.row p m

@@ -15,7 +15,8 @@ use Rattle.x86_fields.specs.Address.{base_of, index_of, scale_by}
 
 -- The operand has the parts that are present. A displacement of 0 is not named.
 abbrev pub shape_by : Option RegSpec → Option RegSpec → ℕ → ℤ → Slot × Operand
-shape_by (Some b) (Some i) s d = if is_zero d then (slots.BaseIndexScale, operands.MemBaseIndexScale b i s) else (slots.BaseIndexScaleDisp, operands.MemBaseIndexScaleDisp b i s d)
+shape_by (Some b) (Some i) s d = if is_zero d then (slots.BaseIndexScale, operands.MemBaseIndexScale b i s)
+    else (slots.BaseIndexScaleDisp, operands.MemBaseIndexScaleDisp b i s d)
 shape_by (Some b) None s d = if is_zero d then (slots.Deref, operands.MemDeref b) else (slots.Disp, operands.Disp b d)
 shape_by None (Some i) s d = if is_zero d then (slots.IndexScale, operands.MemIndexScale i s) else (slots.IndexScaleDisp, operands.MemIndexScaleDisp i s d)
 shape_by None None s d = (slots.DispU32, operands.AbsoluteU32 (cast_unsigned w32 d))

@@ -29,7 +29,8 @@ Placed = Reading × Places
 
 -- what a record has after its ModRM, with the places
 abbrev pub plan_placed : ℕ → Plan → Prefixes → ℕ → Step Placed
-plan_placed opcode_end plan p m = λ s. then_from (read_plan plan p m s).answer (read_plan plan p m s).after (λ reading. pure (reading, plan_places plan p m s opcode_end))
+plan_placed opcode_end plan p m = λ s. then_from (read_plan plan p m s).answer (read_plan plan p m s).after
+    (λ reading. pure (reading, plan_places plan p m s opcode_end))
 
 -- what a row has after its opcode, with the places
 unfoldable pub record_placed : ℕ → RowRecord → Prefixes → Step Placed

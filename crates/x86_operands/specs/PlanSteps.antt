@@ -2,7 +2,13 @@
 use Rattle.std.specs.Prelude.{ℕ, Bool, true, false, if◌then◌else◌, Option, Some, None, List, [], ◌∷◌, length, slice_index_or, ◌==◌}
 use Rattle.std.specs.Int.{Width, w8, w16, w32, w64, cast_signed}
 use Rattle.std.specs.Option.{option_map_or}
-use Rattle.x86_operands.specs.Vocabulary.{RegSpec, RegisterClass, DecodeError, Prefixes, Raw, Slot, Operand, RegisterSlot, PointerSlot, OperandEncoding, G, Gmm, E, Emm, M, U, Umm, I8, I16, I32, I64, I32From16, I64Whole, U8, U16, X8, X16, ConstantI8, ConstantU8, Address32, Address64, Moment, AtModRM, AfterAddress, AfterSuffix, Fault, BadOpcode, BadOperand, Incomplete, Verdict, NamedBySuffix, Refuses, PrefixChange, Keeps, ClearsOperandSize, SetsEs, ModrmUse, Absent, EitherForm, Registers, Plan, Reading, Operands, reg_spec, reg_field, rm_field, is_memory, absent_modrm, as_register, register_of, class_of, address_size}
+use Rattle.x86_operands.specs.Vocabulary.{RegSpec, RegisterClass, DecodeError, Prefixes, Raw, Slot, Operand, RegisterSlot, PointerSlot}
+use Rattle.x86_operands.specs.Vocabulary.{OperandEncoding, G, Gmm, E, Emm, I8, I16, I32, I64, I32From16, I64Whole, U8, U16, X8, X16}
+use Rattle.x86_operands.specs.Vocabulary.{ConstantI8, ConstantU8, Address32, Address64, Moment, AtModRM, AfterAddress, AfterSuffix, Fault}
+use Rattle.x86_operands.specs.Vocabulary.{BadOpcode, BadOperand, Incomplete, Verdict, NamedBySuffix, Refuses, PrefixChange, Keeps}
+use Rattle.x86_operands.specs.Vocabulary.{ClearsOperandSize, SetsEs, ModrmUse, Absent, EitherForm, Registers, Plan, Reading, Operands}
+use Rattle.x86_operands.specs.Vocabulary.{reg_spec, reg_field, rm_field, is_memory, absent_modrm, as_register, register_of, class_of}
+use Rattle.x86_operands.specs.Vocabulary.{address_size}
 use Rattle.x86_regs.specs.declared.RegisterClass.TheVariants as class
 use Rattle.x86_operands.specs.declared.plans.OperandEncoding.TheVariants as encoding
 use Rattle.x86_fields.specs.declared.errors.DecodeError.TheVariants.{InvalidOpcode, InvalidOperand, IncompleteDecoder}
@@ -16,7 +22,8 @@ use Rattle.x86_operands.specs.declared.plans.PointerSlot.TheVariants as pointer
 use Rattle.x86_operands.specs.Operands.{shape}
 use Rattle.x86_operands.specs.Plans.{RowRecord, list_of, reg_number, rm_number}
 use Rattle.std.specs.Map.{lookup}
-use Rattle.x86_opcodes.specs.Names.{PI2FW, PI2FD, PF2IW, PF2ID, PFNACC, PFPNACC, PFCMPGE, PFMIN, PFRCP, PFRSQRT, PFSUB, PFADD, PFCMPGT, PFMAX, PFRCPIT1, PFRSQIT1, PFSUBR, PFACC, PFCMPEQ, PFMUL, PFRCPIT2, PMULHRW, PSWAPD, PAVGUSB}
+use Rattle.x86_opcodes.specs.Names.{PI2FW, PI2FD, PF2IW, PF2ID, PFNACC, PFPNACC, PFCMPGE, PFMIN, PFRCP, PFRSQRT, PFSUB, PFADD, PFCMPGT}
+use Rattle.x86_opcodes.specs.Names.{PFMAX, PFRCPIT1, PFRSQIT1, PFSUBR, PFACC, PFCMPEQ, PFMUL, PFRCPIT2, PMULHRW, PSWAPD, PAVGUSB}
 
 -- ---- the last byte of a 3DNow encoding, which names the opcode. Source: AMD APM volume 3, appendix A, tables A-13 and A-14
 
@@ -84,9 +91,6 @@ known_operand (G w) p m memory = (slots.Reg, operands.Register (register_of (cla
 known_operand Gmm p m memory = (slots.Reg, operands.Register (reg_spec (reg_field m) class.MM))
 known_operand (E w) p m memory = memory_or (register_of (class_of w p) p (rm_number m p)) memory
 known_operand Emm p m memory = memory_or (reg_spec (rm_field m) class.MM) memory
-known_operand M p m memory = memory_or (reg_spec (rm_number m p) class.Q) memory
-known_operand (U w) p m memory = memory_or (register_of (class_of w p) p (rm_number m p)) memory
-known_operand Umm p m memory = memory_or (reg_spec (rm_field m) class.MM) memory
 known_operand encoding.Cr p m memory = (slots.Reg, operands.Register (reg_spec (reg_number m p) class.CR))
 known_operand encoding.Dr p m memory = (slots.Reg, operands.Register (reg_spec (reg_number m p) class.DR))
 known_operand encoding.Sr p m memory = (slots.Reg, operands.Register (reg_spec (reg_number m p) class.S))
@@ -169,7 +173,14 @@ changed ClearsOperandSize p = without_operand_size p
 changed SetsEs p = with_es p
 
 abbrev pub reading_from : Plan → Prefixes → ℕ → Operands → Reading
-reading_from plan p opcode operand_pairs = record { opcode = opcode; count = operand_pairs.count; slots = operand_pairs.slots; operands = operand_pairs.operands; mem_size = plan.size; prefixes = changed plan.change p }
+reading_from plan p opcode operand_pairs = record {
+  opcode = opcode;
+  count = operand_pairs.count;
+  slots = operand_pairs.slots;
+  operands = operand_pairs.operands;
+  mem_size = plan.size;
+  prefixes = changed plan.change p;
+}
 
 -- what a record has after its ModRM
 unfoldable pub read_plan : Plan → Prefixes → ℕ → Step Reading

@@ -1,11 +1,12 @@
 -- The plain forms: a row a line. The first row that is there counts. The letters are those of the Intel SDM, volume 2,
--- appendix A.2: G and E are the operands of ModRM's reg and rm, M and U its memory and its register form, I an immediate,
+-- appendix A.2: G and E are the operands of ModRM's reg and rm, M and U that of rm in its memory and its register form, I an immediate,
 -- Z the register of the opcode byte, A the accumulator. The columns: where (bare without ModRM, mem the memory forms of
 -- ModRM, reg the register forms, both; at a reg), the prefixes, the name, the operands, and the memory size (of the memory
 -- form, and of the register form). A form with one row whose name is that of the opcode map has a word for where.
 -- specs/Words.antt has the words, specs/Columns.antt what they mean, and specs/PlanSteps.antt what the letters mean.
 use Rattle.std.specs.Prelude.{List, [], ◌∷◌}
-use Rattle.x86_opcodes.specs.Names.{CBW, CDQ, CDQE, CQO, CWD, CWDE, ENQCMD, ENQCMDS, IRET, IRETD, IRETQ, JECXZ, LFS, LGS, LSS, MOVQ, NOP, PEXTRD, PEXTRQ, PINSRD, PINSRQ}
+use Rattle.x86_opcodes.specs.Names.{CBW, CDQ, CDQE, CQO, CWD, CWDE, ENQCMD, ENQCMDS, IRET, IRETD, IRETQ, JECXZ, LFS, LGS, LSS, MOVQ, NOP}
+use Rattle.x86_opcodes.specs.Names.{PEXTRD, PEXTRQ, PINSRD, PINSRQ}
 use Rattle.x86_fields.specs.declared.sizes.Width.TheVariants.{B, W, D, Q, X, V, Vq, Vd, Dq}
 use Rattle.x86_operands.specs.Vocabulary.{Form, BadOperand, Incomplete, AtModRM, AfterAddress, AfterSuffix, SetsEs}
 use Rattle.x86_operands.specs.RowVocabulary.{FormRow, Own, Name, Bytes, Of}
@@ -13,11 +14,14 @@ use Rattle.x86_forms.specs.declared.Form.TheVariants as form
 use Rattle.x86_operands.specs.declared.plans.RegisterSlot.TheVariants.{Reg, Rm, Third}
 use Rattle.x86_operands.specs.declared.plans.PointerSlot.TheVariants.{Deref, DerefEsi, DerefEdi, DerefRsi, DerefRdi}
 use Rattle.x86_regs.specs.declared.RegisterClass.TheVariants as class
-use Rattle.x86_operands.specs.declared.encodings.Size.TheVariants.{FarPointer, Bare, Call, Return, Duplicate, Stream, Scalar, Extract, Insert, Unpack, Extend}
-use Rattle.x86_operands.specs.declared.plans.OperandEncoding.TheVariants.{E, G, U, M, Gmm, Emm, Umm, Sr, A, I8, U8, U16, I32, Iv, Ivq, Ip, X16, Offset, Source, Destination, At, Implied}
+use Rattle.x86_operands.specs.declared.sizing.Size.TheVariants.{FarPointer, Bare, Call, Return, Duplicate, Stream, Scalar, Extract, Insert, Unpack, Extend}
+use Rattle.x86_operands.specs.declared.plans.OperandEncoding.TheVariants.{E, G, Gmm, Emm, Sr, A, I8, U8, U16, I32, Iv, Ivq, Ip, X16, Offset}
+use Rattle.x86_operands.specs.declared.plans.OperandEncoding.TheVariants.{Source, Destination, At, Implied}
 use Rattle.x86_operands.specs.declared.plans.OperandEncodings.TheVariants.{Zero, One, Two, Three}
 use Rattle.x86_operands.specs.declared.rows.When.TheVariants.{Always, With66, With67, RexW, RexR, Register0, Opcode}
-use Rattle.x86_operands.specs.Words.{bare, mem, reg, both, both_at, both_from, Z, unsigned_one, three, of_dq, size, size_of, size_v, size_dq, or_v, read, changing, refusing, refusal, otherwise, named_by_v, without_modrm, with_modrm, with_memory, with_register}
+use Rattle.x86_operands.specs.Words.{bare, mem, reg, both, both_at, both_from, M, U, Umm, Z, unsigned_one, three, of_dq, size, size_of}
+use Rattle.x86_operands.specs.Words.{size_v, size_dq, or_v, read, changing, refusing, refusal, otherwise, named_by_v, without_modrm}
+use Rattle.x86_operands.specs.Words.{with_modrm, with_memory, with_register}
 
 -- of the plain forms none is left to the last line, for groups
 unfoldable pub form_rows : Form → List FormRow

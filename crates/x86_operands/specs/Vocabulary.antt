@@ -27,17 +27,18 @@ pub use Rattle.x86_operands.specs.declared.plans.Verdict.{Verdict}
 pub use Rattle.x86_operands.specs.declared.plans.PrefixChange.{PrefixChange}
 pub use Rattle.x86_operands.specs.declared.plans.ModrmUse.{ModrmUse}
 pub use Rattle.x86_operands.specs.declared.plans.Plan.{Plan}
-pub use Rattle.x86_operands.specs.declared.encodings.AfterOpcode.{AfterOpcode}
-pub use Rattle.x86_operands.specs.declared.encodings.Size.{Size}
-pub use Rattle.x86_operands.specs.declared.encodings.FormEncoding.{FormEncoding}
-pub use Rattle.x86_operands.specs.declared.encodings.RegGroup.{RegGroup}
+pub use Rattle.x86_operands.specs.declared.sizing.Size.{Size}
+pub use Rattle.x86_operands.specs.declared.templates.Template.{Template}
+pub use Rattle.x86_operands.specs.declared.heads.After.{After}
+pub use Rattle.x86_operands.specs.declared.heads.Head.{Head}
 pub use Rattle.x86_operands.specs.declared.order.Position.{Position}
 pub use Rattle.x86_operands.specs.declared.order.Order.{Order}
 pub use Rattle.x86_operands.specs.declared.reader.Reading.{Reading}
 pub use Rattle.x86_operands.specs.declared.operand_list.Operands.{Operands}
 pub use Rattle.x86_operands.specs.declared.asks.Ask.{Ask}
 pub use Rattle.x86_operands.specs.declared.asks.RecordAt.{RecordAt}
-pub use Rattle.x86_operands.specs.declared.plans.OperandEncoding.TheVariants.{G, Gmm, E, Emm, M, U, Umm, I8, I16, I32, I64, I32From16, I64Whole, U8, U16, X8, X16, ConstantI8, ConstantU8, Address32, Address64}
+pub use Rattle.x86_operands.specs.declared.plans.OperandEncoding.TheVariants.{G, Gmm, E, Emm, I8, I16, I32, I64, I32From16, I64Whole, U8}
+pub use Rattle.x86_operands.specs.declared.plans.OperandEncoding.TheVariants.{U16, X8, X16, ConstantI8, ConstantU8, Address32, Address64}
 pub use Rattle.x86_operands.specs.declared.plans.OperandEncodings.TheVariants.{Zero, One, Two, Three, Four}
 pub use Rattle.x86_operands.specs.declared.plans.Fault.TheVariants.{BadOpcode, BadOperand, Incomplete}
 pub use Rattle.x86_operands.specs.declared.plans.Moment.TheVariants.{AtModRM, AfterAddress, AfterSuffix}
@@ -45,4 +46,4 @@ pub use Rattle.x86_operands.specs.declared.plans.Verdict.TheVariants.{Accepts, N
 pub use Rattle.x86_operands.specs.declared.plans.PrefixChange.TheVariants.{Keeps, ClearsOperandSize, SetsEs}
 pub use Rattle.x86_operands.specs.declared.plans.ModrmUse.TheVariants.{Absent, EitherForm, Registers}
 pub use Rattle.x86_operands.specs.declared.plans.PointerSlot.TheVariants.{Deref, DerefEsi, DerefEdi, DerefRsi, DerefRdi}
-pub use Rattle.x86_operands.specs.declared.order.Position.TheVariants.{First, Second, Third, Nowhere}
+pub use Rattle.x86_operands.specs.declared.order.Position.TheVariants.{First, Second, Third, Fourth, Nowhere}

@@ -1,11 +1,14 @@
 -- The words that rows are written in.
 use Rattle.std.specs.Prelude.{ℕ, List, [], ◌∷◌, pos}
 use Rattle.x86_regs.specs.declared.RegisterClass.TheVariants as class
+use Rattle.x86_fields.specs.declared.sizes.Width.TheVariants as width
 use Rattle.x86_fields.specs.MemorySizes.{undecided_size}
-use Rattle.x86_operands.specs.declared.encodings.Size.TheVariants.{V, Vq, Dq}
+use Rattle.x86_operands.specs.declared.sizing.Size.TheVariants.{V, Vq, Dq}
 use Rattle.x86_opcodes.specs.Names.{Invalid}
-use Rattle.x86_operands.specs.Vocabulary.{OperandEncoding, OperandEncodings, Zero, RegisterSlot, Width, Fault, Moment, BadOperand, AtModRM, AfterAddress, PrefixChange, Keeps, Size, Verdict, Accepts, NamedBySuffix, Refuses}
-use Rattle.x86_operands.specs.RowVocabulary.{Bare, Bytes, ByReg, ByRm, Either, FormRow, Memory, Name, Names, Of, Own, Place, Reg, Register, Rm, RowSize, When, Where}
+use Rattle.x86_operands.specs.Vocabulary.{OperandEncoding, OperandEncodings, Zero, RegisterSlot, Width, Fault, Moment, BadOperand, AtModRM}
+use Rattle.x86_operands.specs.Vocabulary.{AfterAddress, PrefixChange, Keeps, Size, Verdict, Accepts, NamedBySuffix, Refuses}
+use Rattle.x86_operands.specs.RowVocabulary.{Bare, Bytes, ByReg, ByRm, Either, FormRow, Memory, Name, Names, Of, Own, Place, Reg, Register}
+use Rattle.x86_operands.specs.RowVocabulary.{Rm, RowSize, When, Where}
 use Rattle.x86_operands.specs.declared.plans.RegisterSlot.TheVariants as slot
 use Rattle.x86_operands.specs.declared.plans.OperandEncoding.TheVariants as encoding
 use Rattle.x86_operands.specs.declared.rows.When.TheVariants.{Always, RexW, With66}
@@ -67,6 +70,16 @@ by_rm a b c d e f g h = ByRm (a ∷ b ∷ c ∷ d ∷ e ∷ f ∷ g ∷ h ∷ []
 
 -- ---- operands
 
+-- the operand of rm in the memory form, and in the register form, where that is all that a row has
+abbrev pub M : OperandEncoding
+M = encoding.E width.Q
+
+abbrev pub U : Width → OperandEncoding
+U w = encoding.E w
+
+abbrev pub Umm : OperandEncoding
+Umm = encoding.Emm
+
 -- the register of the opcode byte, whose number the plan has
 abbrev pub Z : RegisterSlot → Width → OperandEncoding
 Z at w = encoding.Z at w 0
@@ -86,10 +99,10 @@ abbrev pub cl : OperandEncoding
 cl = encoding.Implied slot.Reg 1 class.B
 
 abbrev pub rax : OperandEncoding
-rax = encoding.Implied slot.Reg 0 class.Q
+rax = encoding.A width.Q
 
 abbrev pub eax : OperandEncoding
-eax = encoding.Implied slot.Reg 0 class.D
+eax = encoding.A width.D
 
 abbrev pub ecx : OperandEncoding
 ecx = encoding.Implied slot.Reg 1 class.D
@@ -146,7 +159,8 @@ or_v s = (s, of_v)
 
 -- a row: where, the prefixes, the name, the operands, the size, the change of the answer's prefixes, and the verdict
 abbrev pub row : Where → When → Names → OperandEncodings → RowSize × RowSize → PrefixChange → Verdict → FormRow
-row at when names operands size change verdict = record { at = at; when = when; names = names; operands = operands; in_memory = size.0; in_register = size.1; change = change; verdict = verdict }
+row at when names operands size change verdict =
+    record { at = at; when = when; names = names; operands = operands; in_memory = size.0; in_register = size.1; change = change; verdict = verdict }
 
 -- a row that is read; one that changes the prefixes of the answer; and one whose operation a last byte names
 abbrev pub read : Where → When → Names → OperandEncodings → RowSize × RowSize → FormRow

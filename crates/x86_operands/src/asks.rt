@@ -1,14 +1,17 @@
 //! What a row has after its opcode byte, known from a ModRM byte alone.
 ghost use Rattle.std.specs.Prelude.{◌≡◌, ◌≤◌, true};
 ghost use Rattle.x86_fields.specs.Pieces.{option_bytes};
-ghost use Rattle.x86_operands.specs.Asks.{immediate_width, modrm_of, encoding_ask, immediates_width, uses_modrm, uses_suffix};
-ghost use Rattle.x86_operands.specs.Encodings.{is_last, is_sound, settled};
-ghost use Rattle.x86_operands.specs.Vocabulary.{is_memory};
+ghost use Rattle.x86_operands.specs.Asks.{immediate_width, modrm_of, part_width, plan_ask, uses_modrm};
+ghost use Rattle.x86_operands.specs.Columns.{plan_of_row};
+ghost use Rattle.x86_operands.specs.Encodings.{settled};
+ghost use Rattle.x86_operands.specs.Templates.{form_row, is_sound_row};
 
-use crate::encodings::FormEncoding;
 use crate::order::Position;
-use crate::plans::{Fault, ModrmUse, OperandEncoding, OperandEncodings, Plan, Verdict};
+use crate::plans::{Fault, ModrmUse, OperandEncoding, Verdict};
+use crate::rows::TemplateRow;
+use crate::templates::Template;
 use x86_fields::{ModRM, Prefixes};
+use x86_forms::TableRow;
 
 /// Which parts of an encoding a row has after its opcode byte. Whether there is a SIB, and how long the displacement
 /// of a memory form is, is known from ModRM and SIB (Intel SDM volume 2, section 2.1.5).
@@ -29,12 +32,12 @@ pub struct Ask {
 pub struct RecordAt {
     /// The refusal at the opcode byte.
     pub at_opcode: Option<Fault>,
-    /// How the row uses a ModRM byte.
-    pub usage: ModrmUse,
     /// ModRM as the row uses it.
     pub modrm: ModRM,
-    /// The plan of its operands, with the operation and the refusals after ModRM.
-    pub plan: Plan,
+    /// Which parts the row has.
+    pub ask: Ask,
+    /// Whether the row is read or refused after ModRM.
+    pub verdict: Verdict,
 }
 
 fn immediate_width(encoding: OperandEncoding) -> u8
@@ -53,23 +56,6 @@ fn immediate_width(encoding: OperandEncoding) -> u8
     }
 }
 
-fn immediates_width(encodings: OperandEncodings) -> u8
-    ensures { result ≡ immediates_width encodings }
-{
-    match encodings {
-        OperandEncodings::Zero => 0,
-        OperandEncodings::One(a) => immediate_width(a),
-        OperandEncodings::Two(a, b) => immediate_width(a) + immediate_width(b),
-        OperandEncodings::Three(a, b, c) => immediate_width(a)
-            + immediate_width(b)
-            + immediate_width(c),
-        OperandEncodings::Four(a, b, c, d) => immediate_width(a)
-            + immediate_width(b)
-            + immediate_width(c)
-            + immediate_width(d),
-    }
-}
-
 /// A ModRM byte as a row uses it: C0 where the row has none, and mod 11 where mod isn't looked at. One that isn't there
 /// reads as C0.
 pub fn used_modrm(usage: ModrmUse, modrm: Option<u8>) -> ModRM
@@ -82,48 +68,47 @@ pub fn used_modrm(usage: ModrmUse, modrm: Option<u8>) -> ModRM
     }
 }
 
-/// What a plan has at a ModRM byte that is used so.
-pub fn plan_ask(usage: ModrmUse, modrm: ModRM, plan: &Plan) -> Ask
-    ensures modrm { result.modrm ≡ uses_modrm usage }
-    ensures memory { result.memory ≡ is_memory modrm }
-    ensures immediate { result.immediate ≡ immediates_width plan.now.encodings }
-    ensures suffix { result.suffix ≡ uses_suffix plan.now.verdict }
+/// How many bytes of immediate an operand has, if there is one.
+fn part_width(at: Position, encoding: OperandEncoding, num: u8, prefixes: &Prefixes) -> u8
+    ensures value { result ≡ part_width at (settled encoding num prefixes.now) }
+    ensures small { result ≤ 8 }
 {
-    Ask {
-        modrm: !matches!(usage, ModrmUse::Absent),
-        memory: modrm.is_memory(),
-        immediate: immediates_width(plan.encodings),
-        suffix: matches!(plan.verdict, Verdict::NamedBySuffix),
-    }
-}
-
-/// How many bytes of immediate the last operand of a line has.
-#[inline(always)]
-fn last_width(last: OperandEncoding, prefixes: &Prefixes) -> u8
-    ensures { is_last last ≡ true → result ≡ immediate_width (settled last 0 prefixes.now) }
-{
-    match last {
-        OperandEncoding::Iv | OperandEncoding::Ivq | OperandEncoding::Ip => immediate_width(
-            last.settled(0, prefixes),
-        ),
-        last => immediate_width(last),
-    }
-}
-
-/// What a line of the operand encodings has at a ModRM byte that is used so: its last operand alone can be an immediate.
-#[inline(always)]
-#[tactic(auto, using(crate::proofs::OrderLemmas::line_has_ask, crate::proofs::OrderLemmas::sound_parts))]
-pub fn encoding_ask(encoding: &FormEncoding, prefixes: &Prefixes, modrm: ModRM) -> Ask
-    ensures { is_sound encoding.now ≡ true → result ≡ encoding_ask encoding.now prefixes.now modrm }
-{
-    let immediate = match encoding.order.last {
+    match at {
         Position::Nowhere => 0,
-        _ => last_width(encoding.last, prefixes),
-    };
-    Ask {
-        modrm: !matches!(encoding.modrm_use(), ModrmUse::Absent),
-        memory: modrm.is_memory(),
-        immediate,
-        suffix: false,
+        _ => immediate_width(encoding.settled(num, prefixes)),
+    }
+}
+
+impl ModrmUse {
+    /// Whether there is a ModRM byte.
+    fn has_modrm(self) -> bool
+        ensures { result ≡ uses_modrm self }
+    {
+        !matches!(self, ModrmUse::Absent)
+    }
+}
+
+impl TemplateRow {
+    /// Which parts the row has at a ModRM byte that is used so; `own` is the row in the opcode map.
+    #[tactic(auto, using(crate::proofs::TemplateLemmas::row_has_ask))]
+    pub fn ask(&self, usage: ModrmUse, own: &TableRow, prefixes: &Prefixes, modrm: ModRM) -> Ask
+        requires { is_sound_row self.now ≡ true }
+        ensures { result ≡ plan_ask usage modrm
+            (plan_of_row (form_row self.now) own.now prefixes.now modrm) }
+    {
+        let Template {
+            order,
+            last,
+            extra,
+            ..
+        } = self.template;
+        let num = own.form.carried();
+        Ask {
+            modrm: usage.has_modrm(),
+            memory: modrm.is_memory(),
+            immediate: part_width(order.last, last, num, prefixes)
+                + part_width(order.extra, extra, num, prefixes),
+            suffix: self.has_suffix(),
+        }
     }
 }

@@ -1,30 +1,85 @@
 //! What a row has whose form is a plain form.
-ghost use Rattle.std.specs.Prelude.{◌≡◌, false};
-ghost use Rattle.x86_arch.specs.Reader.{State};
+ghost use Rattle.std.specs.Prelude.{◌≡◌, ◌≤◌, ◌-◌, length, map, take, drop, slice_get, false, true};
+ghost use Rattle.std.specs.List.{list_all};
 ghost use Rattle.x86_fields.specs.Steps.{outcome};
 ghost use Rattle.x86_forms.specs.Groups.{is_group};
 ghost use Rattle.x86_forms.specs.Words.{IsForm};
 ghost use Rattle.x86_operands.specs.Asks.{ask_of};
-ghost use Rattle.x86_operands.specs.Forms.{form_record};
+ghost use Rattle.x86_operands.specs.Columns.{is_placed, plan_of_row};
+ghost use Rattle.x86_operands.specs.Forms.{form_record, modrm_use, place_use};
 ghost use Rattle.x86_operands.specs.PlanSteps.{record_step};
+ghost use Rattle.x86_operands.specs.Rows.{form_rows};
+ghost use Rattle.x86_operands.specs.Templates.{form_row, is_sound_row};
 
-use crate::form_encodings::form_encoding;
-use crate::plans::Plan;
-use crate::reader::{Reading, read_modrm, read_plan};
-use crate::rows::choose;
-use crate::tables::form_rows;
-use crate::{Ask, plan_ask, used_modrm};
+use crate::plans::ModrmUse;
+use crate::reader::{Reading, read_modrm};
+use crate::rows::{Place, TemplateRow, choose};
+use crate::tables::{ROWS, SPANS};
+use crate::{Ask, used_modrm};
 use x86_arch::Reader;
 use x86_fields::{DecodeError, ModRM, Prefixes};
-use x86_forms::TableRow;
+use x86_forms::{Form, TableRow};
 
-/// The plan of a row whose form is a plain form, at a ModRM byte.
-#[tactic(auto, unfolding(crate::specs::Forms::form_plan, crate::specs::Forms::form_record))]
-pub fn form_plan(row: &TableRow, prefixes: &Prefixes, modrm: ModRM) -> Plan
-    requires { IsForm row.now.form }
-    ensures { result ≡ (form_record row.now prefixes.now).plan modrm }
+/// All rows, the first one of a form, and the one after its last.
+fn span_of(form: Form) -> (&'static [TemplateRow], u16, u16)
+    ensures ordered { result.1 ≤ result.2 }
+    ensures inside { result.2 ≤ length result.0.now }
+    ensures rows { map form_row (take (result.2 - result.1) (drop result.1 result.0.now))
+        ≡ form_rows form }
+    ensures sound { list_all is_sound_row
+        (take (result.2 - result.1) (drop result.1 result.0.now)) ≡ true }
 {
-    choose(form_rows(row.form), row, false, prefixes, modrm).plan(row, prefixes, modrm)
+    let (first, end) = SPANS[form.first_ordinal() as usize];
+    (ROWS, first, end)
+}
+
+/// The rows of a form.
+fn form_rows(form: Form) -> &'static [TemplateRow]
+    ensures rows { map form_row result.now ≡ form_rows form }
+    ensures sound { list_all is_sound_row result.now ≡ true }
+{
+    let (rows, first, end) = span_of(form);
+    &rows[first as usize..end as usize]
+}
+
+impl Place {
+    /// How a row there uses a ModRM byte.
+    fn usage(self) -> ModrmUse
+        ensures { result ≡ place_use self }
+    {
+        match self {
+            Place::Bare => ModrmUse::Absent,
+            _ => ModrmUse::EitherForm,
+        }
+    }
+}
+
+fn first_row(rows: &[TemplateRow]) -> Option<TemplateRow>
+    ensures { result ≡ slice_get rows.now 0 }
+{
+    rows.first().copied()
+}
+
+/// How a form uses a ModRM byte, by its first row.
+#[tactic(auto, using(crate::proofs::HeadLemmas::no_first_use, crate::proofs::HeadLemmas::first_use))]
+pub fn form_modrm(form: Form) -> ModrmUse
+    ensures { result ≡ modrm_use form }
+{
+    match first_row(form_rows(form)) {
+        None => ModrmUse::Absent,
+        Some(row) => row.at.place.usage(),
+    }
+}
+
+/// The row of a plain form at a ModRM byte; `own` is the row in the opcode map.
+#[tactic(auto, unfolding(crate::specs::Forms::form_plan, crate::specs::Forms::form_record))]
+pub fn chosen_row(own: &TableRow, prefixes: &Prefixes, modrm: ModRM) -> TemplateRow
+    ensures plan { plan_of_row (form_row result) own.now prefixes.now modrm
+        ≡ (form_record own.now prefixes.now).plan modrm }
+    ensures sound { is_sound_row result ≡ true }
+    ensures placed { is_placed result.at.place modrm ≡ true }
+{
+    choose(form_rows(own.form), own, false, prefixes, modrm)
 }
 
 /// Reads what a row has after its opcode byte, where its form is a plain form: ModRM, the memory operand, the
@@ -43,9 +98,9 @@ pub fn read_form<T: Reader<u64, u8>>(
     ensures { outcome result (T.state reader.new)
         ≡ record_step (form_record row prefixes) prefixes (T.state reader.old) }
 {
-    let modrm = read_modrm(reader, form_encoding(row.form).modrm_use())?;
-    let plan = form_plan(&row, &prefixes, modrm);
-    read_plan(reader, &plan, prefixes, modrm)
+    let modrm = read_modrm(reader, form_modrm(row.form))?;
+    let chosen = chosen_row(&row, &prefixes, modrm);
+    chosen.read(&row, reader, modrm, prefixes)
 }
 
 /// Which parts a row has whose form is a plain form, at a ModRM byte. `modrm` is read only where the row has a
@@ -58,8 +113,8 @@ pub fn form_ask(row: TableRow, prefixes: Prefixes, modrm: u8) -> Ask
     requires carried { IsForm row.form }
     ensures { result ≡ ask_of (form_record row prefixes) modrm }
 {
-    let usage = form_encoding(row.form).modrm_use();
+    let usage = form_modrm(row.form);
     let modrm = used_modrm(usage, Some(modrm));
-    let plan = form_plan(&row, &prefixes, modrm);
-    plan_ask(usage, modrm, &plan)
+    let chosen = chosen_row(&row, &prefixes, modrm);
+    chosen.ask(usage, &row, &prefixes, modrm)
 }

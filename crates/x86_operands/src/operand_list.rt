@@ -1,25 +1,28 @@
 //! The operands of an instruction: what their encodings yield, written where it stays.
 
-ghost use Rattle.std.specs.Prelude.{◌≡◌, ◌<◌, ◌≢◌, ℕ, Option, true, OnOk};
+ghost use Rattle.std.specs.Prelude.{◌≡◌, ◌<◌, ◌≢◌, ℕ, Option, true, false, OnOk};
 ghost use Rattle.x86_fields.specs.Steps.{outcome};
+ghost use Rattle.x86_forms.specs.Words.{carried};
 ghost use Rattle.x86_operands.specs.Vocabulary.{Nowhere, Prefixes, Raw};
-ghost use Rattle.x86_operands.specs.PlanSteps.{memory_or, read_plan, register_slot};
-ghost use Rattle.x86_operands.specs.OperandList.{reg_pair, fixed_pair, no_operands, reading_with, value_if_ok, put_in, put_at, put_encoded, encoded_read, leading_read, slot_in, operand_in};
-ghost use Rattle.x86_operands.specs.Places.{place_after_address};
-ghost use Rattle.x86_operands.specs.Encodings.{plan_of, settled, is_last, allows, is_sound, order_fits};
+ghost use Rattle.x86_operands.specs.PlanSteps.{read_plan, register_slot};
+ghost use Rattle.x86_operands.specs.OperandList.{reg_pair, rm_pair, fixed_pair, no_operands, reading_with, value_if_ok, put_in, put_at, put_encoded, encoded_read, leading_read, rm_read, other_read, all_read, sized, slot_in, operand_in};
+ghost use Rattle.x86_operands.specs.Places.{place_after_address, place_of};
+ghost use Rattle.x86_operands.specs.Encodings.{settled, size_bytes};
+ghost use Rattle.x86_operands.specs.Templates.{fits_form, is_field, is_last, is_read_at, is_sound, size_at, template_plan};
 
-use crate::order::Position;
+use crate::order::{Order, Position};
 use crate::places::place_of;
 use crate::plans::{OperandEncoding, RegisterSlot};
 use crate::shapes::put_shape;
-use crate::{AfterOpcode, FormEncoding, Operand, Slot};
+use crate::{Operand, Slot, Template};
 use x86_arch::Reader;
 use x86_fields::{
-    DecodeError, ModRM, PrefixedModRM, Prefixes, Raw, Width, extend, read_raw, read_u8, read_u16,
+    DecodeError, ModRM, PrefixedModRM, Prefixes, Width, extend, read_raw, read_u8, read_u16,
     read_u32, read_u64,
 };
+use x86_forms::TableRow;
 use x86_opcodes::Opcode;
-use x86_regs::RegSpec;
+use x86_regs::{RegSpec, RegisterClass};
 
 /// The operands of an instruction, in the order in which a listing names them.
 #[derive(Clone, Copy, Debug, Drop)]
@@ -61,17 +64,6 @@ impl Operands {
             RegisterSlot::Third => Slot::Third,
         };
         self.put_register(at, slot, reg);
-    }
-
-    /// The operand of rm: memory where it was read, else the register.
-    pub(crate) fn put_rm(&mut self, at: usize, memory: Option<Raw>, reg: RegSpec)
-        requires { at < 4 }
-        ensures { self.new ≡ put_at at (memory_or reg memory) self.old }
-    {
-        match memory {
-            None => self.put_register(at, Slot::Rm, reg),
-            Some(raw) => put_shape(self, at, &raw),
-        }
     }
 
     fn put_i8(&mut self, at: usize, imm: i8)
@@ -186,20 +178,36 @@ impl Operands {
         }
     }
 
+    /// The register of rm.
+    #[inline(always)]
+    fn put_rm(&mut self, at: Position, width: Width, fields: &PrefixedModRM<'_>)
+        requires { at ≢ Nowhere }
+        ensures { self.new ≡ put_in at (rm_pair width fields.now.prefixes.now fields.now.modrm)
+            self.old }
+    {
+        let reg = match width {
+            Width::Mm => RegSpec::mm(fields.modrm.rm_field()),
+            Width::St => RegSpec::of(fields.modrm.rm_field(), RegisterClass::ST),
+            width => fields.rm(width),
+        };
+        self.put_at(at as usize, Slot::Rm, Operand::Register { reg });
+    }
+
     /// The register of the opcode byte, or register 0, if it is an operand.
     #[inline(always)]
-    fn put_fixed(&mut self, encoding: &FormEncoding, num: u8, fields: &PrefixedModRM<'_>)
+    fn put_fixed(&mut self, template: &Template, num: u8, fields: &PrefixedModRM<'_>)
         requires { num < 8 }
-        ensures { self.new ≡ put_in encoding.now.order.reg (fixed_pair encoding.now.after_opcode
-            encoding.now.reg num fields.now.prefixes.now) self.old }
+        ensures { self.new ≡ put_in template.now.order.reg (fixed_pair template.now.of_opcode
+            template.now.reg num fields.now.prefixes.now) self.old }
     {
-        match encoding.order.reg {
+        match template.order.reg {
             Position::Nowhere => {}
             at => {
-                let class = encoding.reg.class(fields.sizes);
-                let num = match encoding.after_opcode {
-                    AfterOpcode::Opcode => extend(fields.prefixes.has_b(), num),
-                    _ => 0,
+                let class = template.reg.class(fields.sizes);
+                let num = if template.of_opcode {
+                    extend(fields.prefixes.has_b(), num)
+                } else {
+                    0
                 };
                 let reg = fields.prefixes.register(class, num);
                 self.put_at(at as usize, Slot::Reg, Operand::Register { reg });
@@ -207,42 +215,58 @@ impl Operands {
         }
     }
 
+    /// The operand of rm: memory in the memory form, else the register.
+    #[tactic(auto, using(crate::proofs::InPlaceLemmas::rm_in_memory, crate::proofs::InPlaceLemmas::rm_in_register))]
+    #[inline(always)]
+    fn read_rm<T: Reader<u64, u8>>(
+        &mut self,
+        at: Position,
+        reader: &mut T,
+        template: &Template,
+        fields: &PrefixedModRM<'_>,
+    ) -> Result<(), DecodeError>
+        requires position { at ≢ Nowhere }
+        requires form { fits_form template.now fields.now.modrm ≡ true }
+        ensures { outcome (value_if_ok result self.new) (T.state reader.new)
+            ≡ rm_read at template.now.rm fields.now.prefixes.now fields.now.modrm self.old
+            (T.state reader.old) }
+    {
+        if !fields.in_memory {
+            self.put_rm(at, template.rm, fields);
+            return Ok(());
+        }
+        let raw = read_raw(reader, fields.prefixes, fields.modrm.byte())?;
+        put_shape(self, at as usize, &raw);
+        Ok(())
+    }
+
     /// The operands of ModRM, or a register that no ModRM names.
-    #[tactic(auto, using(crate::proofs::InPlaceLemmas::reg_placed, crate::proofs::InPlaceLemmas::fixed_placed, crate::proofs::InPlaceLemmas::rm_in_memory, crate::proofs::InPlaceLemmas::rm_in_register))]
+    #[tactic(auto, using(crate::proofs::InPlaceLemmas::without_modrm, crate::proofs::InPlaceLemmas::with_modrm))]
     #[inline(always)]
     fn read_leading<T: Reader<u64, u8>>(
         &mut self,
         reader: &mut T,
-        encoding: &FormEncoding,
+        template: &Template,
         num: u8,
         fields: &PrefixedModRM<'_>,
     ) -> Result<(), DecodeError>
         requires small { num < 8 }
-        requires fits { order_fits encoding.now.after_opcode encoding.now.order ≡ true }
-        requires allowed { allows encoding.now.after_opcode fields.now.modrm ≡ true }
+        requires form { fits_form template.now fields.now.modrm ≡ true }
         ensures { outcome (value_if_ok result self.new) (T.state reader.new)
-            ≡ leading_read encoding.now num fields.now.prefixes.now fields.now.modrm self.old
+            ≡ leading_read template.now num fields.now.prefixes.now fields.now.modrm self.old
             (T.state reader.old) }
     {
-        match encoding.order.rm {
+        match template.order.rm {
             Position::Nowhere => {
-                self.put_fixed(encoding, num, fields);
-                return Ok(());
+                self.put_fixed(template, num, fields);
+                Ok(())
             }
-            at if fields.in_memory => {
-                let raw = read_raw(reader, fields.prefixes, fields.modrm.byte())?;
-                put_shape(self, at as usize, &raw);
-            }
-            at => {
-                let reg = match encoding.rm {
-                    Width::Mm => RegSpec::mm(fields.modrm.rm_field()),
-                    width => fields.rm(width),
-                };
-                self.put_at(at as usize, Slot::Rm, Operand::Register { reg });
+            _ => {
+                self.read_rm(template.order.rm, reader, template, fields)?;
+                self.put_reg(template.order.reg, template.reg, fields);
+                Ok(())
             }
         }
-        self.put_reg(encoding.order.reg, encoding.reg, fields);
-        Ok(())
     }
 
     /// No operands: `Operands::none()` as a constant.
@@ -261,13 +285,42 @@ impl Operands {
         Operands::NONE
     }
 
-    /// What an encoding has after ModRM, where it doesn't refuse, and the place after SIB and displacement.
-    #[tactic(auto, using(crate::proofs::InPlaceLemmas::plan_is_read, crate::proofs::OrderLemmas::sound_parts))]
+    /// The operands of ModRM or of the opcode byte, how many operands there are, their memory size, and the place after
+    /// SIB and displacement. `opcode` is the one of the opcode map.
+    #[inline(always)]
+    fn read_first<T: Reader<u64, u8>>(
+        &mut self,
+        reader: &mut T,
+        template: &Template,
+        opcode: Opcode,
+        num: u8,
+        fields: &PrefixedModRM<'_>,
+        address_end: &mut u8,
+    ) -> Result<(), DecodeError>
+        requires blank { self.old ≡ no_operands }
+        requires small { num < 8 }
+        requires form { fits_form template.now fields.now.modrm ≡ true }
+        ensures read { outcome (value_if_ok result self.new) (T.state reader.new)
+            ≡ leading_read template.now num fields.now.prefixes.now fields.now.modrm
+            (sized template.now.order.count
+            (size_bytes (size_at template.now fields.now.modrm) opcode fields.now.prefixes.now))
+            (T.state reader.old) }
+        ensures address { OnOk result (address_end.new ≡ place_of (T.state reader.new).since_mark) }
+    {
+        self.count = template.order.count;
+        self.mem_size = template.mem_size(fields.in_memory, opcode, fields.sizes);
+        self.read_leading(reader, template, num, fields)?;
+        *address_end = place_of(reader.offset());
+        Ok(())
+    }
+
+    /// The operands of a row that has nothing but what is read at once, and the place after SIB and displacement.
+    #[tactic(auto, using(crate::proofs::InPlaceLemmas::plan_is_read, crate::proofs::TemplateLemmas::read_parts))]
     #[inline(always)]
     pub fn read<T: Reader<u64, u8>>(
         &mut self,
         reader: &mut T,
-        encoding: &FormEncoding,
+        template: &Template,
         opcode: Opcode,
         num: u8,
         prefixes: &Prefixes,
@@ -276,31 +329,84 @@ impl Operands {
     ) -> Result<(), DecodeError>
         requires blank { self.old ≡ no_operands }
         requires small { num < 8 }
-        requires sound { is_sound encoding.now ≡ true }
-        requires allowed { allows encoding.now.after_opcode modrm ≡ true }
+        requires fits { is_read_at template.now modrm ≡ true }
         ensures read { outcome (value_if_ok result (reading_with opcode prefixes.now self.new))
-            (T.state reader.new) ≡ read_plan (plan_of encoding.now num opcode prefixes.now modrm)
-            prefixes.now modrm (T.state reader.old) }
+            (T.state reader.new) ≡ read_plan
+            (template_plan template.now num opcode prefixes.now modrm) prefixes.now modrm
+            (T.state reader.old) }
         ensures address { OnOk result
             (address_end.new ≡ place_after_address prefixes.now modrm (T.state reader.old)) }
     {
         let fields = PrefixedModRM::of(prefixes, modrm);
-        self.count = encoding.order.count;
-        self.mem_size = encoding.mem_size(fields.in_memory, opcode, fields.sizes);
-        self.read_leading(reader, encoding, num, &fields)?;
-        *address_end = place_of(reader.offset());
-        match encoding.order.last {
+        self.read_first(reader, template, opcode, num, &fields, address_end)?;
+        match template.order.last {
             Position::Nowhere => Ok(()),
-            at => self.read_last(at, reader, encoding.last, prefixes),
+            at => self.read_last(at, reader, template.last, prefixes),
         }
+    }
+
+    /// Another operand, if there is one.
+    fn read_other<T: Reader<u64, u8>>(
+        &mut self,
+        at: Position,
+        reader: &mut T,
+        encoding: OperandEncoding,
+        num: u8,
+        prefixes: &Prefixes,
+        modrm: ModRM,
+    ) -> Result<(), DecodeError>
+        requires { is_field encoding ≡ false }
+        ensures { outcome (value_if_ok result self.new) (T.state reader.new)
+            ≡ other_read at encoding num prefixes.now modrm self.old (T.state reader.old) }
+    {
+        match at {
+            Position::Nowhere => Ok(()),
+            at => {
+                let encoding = encoding.settled(num, prefixes);
+                self.put_other(at as usize, reader, encoding, prefixes, modrm)
+            }
+        }
+    }
+
+    /// The operands of any row, and the place after SIB and displacement.
+    #[tactic(auto, using(crate::proofs::TemplateLemmas::sound_parts))]
+    pub(crate) fn read_all<T: Reader<u64, u8>>(
+        &mut self,
+        reader: &mut T,
+        template: &Template,
+        own: &TableRow,
+        prefixes: &Prefixes,
+        modrm: ModRM,
+        address_end: &mut u8,
+    ) -> Result<(), DecodeError>
+        requires blank { self.old ≡ no_operands }
+        requires small { carried own.now.form < 8 }
+        requires sound { is_sound template.now ≡ true }
+        requires form { fits_form template.now modrm ≡ true }
+        ensures read { outcome (value_if_ok result self.new) (T.state reader.new)
+            ≡ all_read template.now (carried own.now.form) prefixes.now modrm
+            (sized template.now.order.count
+            (size_bytes (size_at template.now modrm) own.now.opcode prefixes.now))
+            (T.state reader.old) }
+        ensures address { OnOk result (address_end.new
+            ≡ place_of (leading_read template.now (carried own.now.form) prefixes.now modrm
+            (sized template.now.order.count
+            (size_bytes (size_at template.now modrm) own.now.opcode prefixes.now))
+            (T.state reader.old)).after.since_mark) }
+    {
+        let fields = PrefixedModRM::of(prefixes, modrm);
+        let num = own.form.carried();
+        self.read_first(reader, template, own.opcode, num, &fields, address_end)?;
+        let Order { last, extra, .. } = template.order;
+        self.read_other(last, reader, template.last, num, prefixes, modrm)?;
+        self.read_other(extra, reader, template.extra, num, prefixes, modrm)
     }
 
     /// The slot at an index, counted from 0; at the count and above it `Slot::Nothing`.
     pub fn slot(&self, i: u8) -> Slot
-        requires { i < 4 }
         ensures { result ≡ slot_in self.now i }
     {
-        if i < self.count {
+        if i < self.count && i < 4 {
             self.slots[i as usize]
         } else {
             Slot::Nothing
@@ -309,10 +415,9 @@ impl Operands {
 
     /// The operand at an index, counted from 0; at the count and above it `Operand::Nothing`.
     pub fn operand(&self, i: u8) -> Operand
-        requires { i < 4 }
         ensures { result ≡ operand_in self.now i }
     {
-        if i < self.count {
+        if i < self.count && i < 4 {
             self.operands[i as usize]
         } else {
             Operand::Nothing

@@ -1,9 +1,11 @@
 //! Operands and where they come from.
-ghost use Rattle.std.specs.Prelude.{◌≡◌};
-ghost use Rattle.x86_operands.specs.Operands.{operand_address, is_memory_operand, is_memory_slot, operand_width, access_size, bytes_size};
+ghost use Rattle.std.specs.Prelude.{◌≡◌, IfSome, Some, false};
+ghost use Rattle.x86_fields.specs.Linear.{parts_form};
+ghost use Rattle.x86_operands.specs.OperandParts.{adds_next_pointer, immediate_of, is_next_pointer, operand_parts};
+ghost use Rattle.x86_operands.specs.Operands.{operand_address, operand_form, is_memory_operand, is_memory_slot, operand_width, access_size, bytes_size};
 
 use x86_fields::{AddressParts, RegFile, UNDECIDED_SIZE};
-use x86_regs::{MergeMode, RegSpec, SaeMode};
+use x86_regs::{MergeMode, RegSpec, RegisterClass, SaeMode};
 
 /// An operand of an instruction. The examples are as a listing prints them: numbers are decimal.
 #[derive(Clone, Copy, PartialEq, Eq, Debug, Drop)]
@@ -239,23 +241,13 @@ impl Slot {
     }
 }
 
-/// The parts of an address, whose index counts as often as its scale says.
-fn parts(
-    address_size: bool,
-    base: Option<RegSpec>,
-    index: Option<RegSpec>,
-    scale: u8,
-    disp: i32,
-) -> AddressParts
-    ensures { result ≡ record
-        { address_size = address_size; base = base; index = index; scale = scale; disp = disp } }
+/// Whether a register is there and is rip or eip.
+fn is_next_pointer(reg: Option<RegSpec>) -> bool
+    ensures { result ≡ is_next_pointer reg }
 {
-    AddressParts {
-        address_size,
-        base,
-        index,
-        scale,
-        disp,
+    match reg {
+        Some(reg) => matches!(reg.class(), RegisterClass::RIP | RegisterClass::EIP),
+        None => false,
     }
 }
 
@@ -298,6 +290,76 @@ impl Operand {
         }
     }
 
+    /// The parts that the address of a memory operand is the sum of: base, index, scale and displacement. They hold
+    /// `address_size` (67), which decides the modulus of the sum.
+    ///
+    /// `[rax+rcx*4-8]` has rax, rcx, 4 and -8, and `[rip]` of `8b 05 00 00 00 00` has rip and 0. An address of 32 bits
+    /// is a displacement alone. `None` where the operand isn't memory, is masked, or is an address of 64 bits, as
+    /// `[abs64:16]`. Source: Intel SDM volume 1, section 3.7.5.
+    pub fn address_parts(&self, address_size: bool) -> Option<AddressParts>
+        ensures parts { result ≡ operand_parts address_size self.now }
+        ensures address { IfSome result (λ parts.
+            operand_form address_size self.now ≡ Some (parts_form parts)) }
+    {
+        let (base, index, scale, disp) = match *self {
+            Operand::AbsoluteU32 { addr } => (None, None, 1, addr.cast_signed()),
+            Operand::MemDeref { base } => (Some(base), None, 1, 0),
+            Operand::Disp { base, disp } => (Some(base), None, 1, disp),
+            Operand::MemIndexScale { index, scale } => (None, Some(index), scale, 0),
+            Operand::MemIndexScaleDisp { index, scale, disp } => (None, Some(index), scale, disp),
+            Operand::MemBaseIndexScale { base, index, scale } => {
+                (Some(base), Some(index), scale, 0)
+            }
+            Operand::MemBaseIndexScaleDisp {
+                base,
+                index,
+                scale,
+                disp,
+            } => (Some(base), Some(index), scale, disp),
+            _ => return None,
+        };
+        Some(AddressParts {
+            address_size,
+            base,
+            index,
+            scale,
+            disp,
+        })
+    }
+
+    /// Whether the operand is memory relative to the next instruction: rip or eip is its base.
+    ///
+    /// So are `[rip+8]`, `[eip+8]`, and `[rip]` of `8b 05 00 00 00 00`, which has no displacement in its operand but
+    /// one of 4 bytes in the encoding. Source: Intel SDM volume 2, section 2.2.1.6.
+    pub fn is_ip_relative(&self) -> bool
+        ensures { result ≡ adds_next_pointer (operand_parts false self.now) }
+    {
+        match self.address_parts(false) {
+            Some(parts) => is_next_pointer(parts.base) || is_next_pointer(parts.index),
+            None => false,
+        }
+    }
+
+    /// The number of an immediate with its sign, -1 of `83 c0 ff` and 128 of `cd 80`; `None` of what isn't an
+    /// immediate.
+    ///
+    /// An `ImmediateU64` from 2^63 on, which no instruction here has, is its number less 2^64.
+    pub fn immediate(&self) -> Option<i64>
+        ensures { result ≡ immediate_of self.now }
+    {
+        match *self {
+            Operand::ImmediateI8 { imm } => Some(imm as i64),
+            Operand::ImmediateU8 { imm } => Some(imm as i64),
+            Operand::ImmediateI16 { imm } => Some(imm as i64),
+            Operand::ImmediateU16 { imm } => Some(imm as i64),
+            Operand::ImmediateI32 { imm } => Some(imm as i64),
+            Operand::ImmediateU32 { imm } => Some(imm as i64),
+            Operand::ImmediateI64 { imm } => Some(imm),
+            Operand::ImmediateU64 { imm } => Some(imm.cast_signed()),
+            _ => None,
+        }
+    }
+
     /// The address of a memory operand, modulo 2^64, or modulo 2^32 where `address_size` (67) holds; `next` is the
     /// address after the instruction. `None` where the operand isn't memory or is masked.
     ///
@@ -305,29 +367,13 @@ impl Operand {
     pub fn address(&self, address_size: bool, regs: &RegFile, next: u64) -> Option<u64>
         ensures { result ≡ operand_address address_size self.now regs.now.regs next }
     {
-        let parts = match *self {
-            Operand::AbsoluteU64 { addr } if address_size => return Some(addr % 0x1_0000_0000),
-            Operand::AbsoluteU64 { addr } => return Some(addr),
-            Operand::AbsoluteU32 { addr } => parts(address_size, None, None, 1, addr.cast_signed()),
-            Operand::MemDeref { base } => parts(address_size, Some(base), None, 1, 0),
-            Operand::Disp { base, disp } => parts(address_size, Some(base), None, 1, disp),
-            Operand::MemIndexScale { index, scale } => {
-                parts(address_size, None, Some(index), scale, 0)
-            }
-            Operand::MemIndexScaleDisp { index, scale, disp } => {
-                parts(address_size, None, Some(index), scale, disp)
-            }
-            Operand::MemBaseIndexScale { base, index, scale } => {
-                parts(address_size, Some(base), Some(index), scale, 0)
-            }
-            Operand::MemBaseIndexScaleDisp {
-                base,
-                index,
-                scale,
-                disp,
-            } => parts(address_size, Some(base), Some(index), scale, disp),
-            _ => return None,
-        };
-        Some(parts.value(regs, next))
+        match *self {
+            Operand::AbsoluteU64 { addr } if address_size => Some(addr % 0x1_0000_0000),
+            Operand::AbsoluteU64 { addr } => Some(addr),
+            _ => match self.address_parts(address_size) {
+                Some(parts) => Some(parts.value(regs, next)),
+                None => None,
+            },
+        }
     }
 }

@@ -22,7 +22,7 @@ pub enum PointerSlot {
     DerefRdi,
 }
 
-/// An operand of a row, of a line or of a plan, in the letters of the Intel SDM, volume 2, appendix A.2.
+/// An operand of a row, of a template or of a plan, in the letters of the Intel SDM, volume 2, appendix A.2.
 #[derive(Clone, Copy, Drop)]
 pub enum OperandEncoding {
     /// The register of reg, with R.
@@ -33,12 +33,6 @@ pub enum OperandEncoding {
     E(Width),
     /// The mm register of rm without B, or the memory operand.
     Emm,
-    /// `E` in the memory form.
-    M,
-    /// `E` in the register form.
-    U(Width),
-    /// `Emm` in the register form.
-    Umm,
     /// The control register of reg, with R.
     Cr,
     /// The debug register of reg, with R.
@@ -102,7 +96,7 @@ pub enum OperandEncoding {
 }
 
 impl OperandEncoding {
-    /// The last operand of a line that has none.
+    /// The last operand of a template that has none.
     pub const ABSENT: OperandEncoding = OperandEncoding::ConstantU8(0);
 
     pub const SIGNED_ONE: OperandEncoding = OperandEncoding::ConstantI8(1);

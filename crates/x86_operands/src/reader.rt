@@ -1,18 +1,25 @@
-//! The one reader of plans: what a record has after its opcode byte.
+//! What a row has after its ModRM byte.
 ghost use Rattle.x86_operands.specs.OperandList.{value_if_ok, no_operands, reading_with};
-ghost use Rattle.std.specs.Prelude.{◌≡◌, ℕ, ◌<◌, ◌∷◌, [], OnOk};
+ghost use Rattle.std.specs.Prelude.{◌≡◌, ℕ, true, OnOk};
 ghost use Rattle.x86_arch.specs.Reader.{State};
 ghost use Rattle.x86_fields.specs.Steps.{outcome};
-ghost use Rattle.x86_operands.specs.Plans.{list_of};
+ghost use Rattle.x86_forms.specs.Words.{IsForm};
+ghost use Rattle.x86_operands.specs.Columns.{is_placed, plan_of_row};
 ghost use Rattle.x86_operands.specs.Places.{plan_places};
-ghost use Rattle.x86_operands.specs.PlanSteps.{suffix_opcode, filled_step, refuse_at, read_opcode, read_memory, read_plan, read_modrm, refuse_fault};
+ghost use Rattle.x86_operands.specs.PlanSteps.{changed, suffix_opcode, refuse_at, read_opcode, read_plan, read_modrm, refuse_fault};
+ghost use Rattle.x86_operands.specs.Asks.{uses_suffix};
+ghost use Rattle.x86_operands.specs.RowSteps.{address_skipped, early_step, skips_address};
+ghost use Rattle.x86_operands.specs.Templates.{form_row, is_sound_row};
 
 use crate::operand_list::Operands;
-use crate::places::{Places, place_of};
-use crate::plans::{Fault, ModrmUse, Moment, OperandEncodings, Plan, PrefixChange, Verdict};
+use crate::order::Position;
+use crate::places::Places;
+use crate::plans::{Fault, ModrmUse, Moment, PrefixChange, Verdict};
+use crate::rows::TemplateRow;
 use crate::{Operand, Slot, used_modrm};
 use x86_arch::Reader;
-use x86_fields::{DecodeError, ModRM, Prefixes, Raw, next_byte, read_raw};
+use x86_fields::{DecodeError, ModRM, Prefixes, next_byte, read_raw};
+use x86_forms::TableRow;
 use x86_opcodes::Opcode;
 
 /// What was read after an opcode byte.
@@ -44,7 +51,7 @@ pub fn refuse_fault(fault: Option<Fault>) -> Result<(), DecodeError>
     }
 }
 
-/// The refusal of a plan, at its moment.
+/// The refusal of a row, at its moment.
 fn refuse_at(verdict: Verdict, at: Moment) -> Result<(), DecodeError>
     ensures { (s : State ℕ) → outcome result s ≡ refuse_at verdict at s }
 {
@@ -88,7 +95,7 @@ pub fn suffix_opcode(byte: u8) -> Option<Opcode>
     }
 }
 
-/// The plan's opcode, or the one that the suffix names.
+/// The row's opcode, or the one that the suffix names.
 fn read_opcode<T: Reader<u64, u8>>(
     reader: &mut T,
     verdict: Verdict,
@@ -106,99 +113,147 @@ fn read_opcode<T: Reader<u64, u8>>(
     }
 }
 
-/// The memory operand's bytes, in the memory form.
-fn read_memory<T: Reader<u64, u8>>(
+/// SIB and displacement, where no operand has them.
+fn skip_address<T: Reader<u64, u8>>(
     reader: &mut T,
     prefixes: &Prefixes,
     modrm: ModRM,
-) -> Result<Option<Raw>, DecodeError>
+) -> Result<(), DecodeError>
     ensures { outcome result (T.state reader.new)
-        ≡ read_memory prefixes.now modrm (T.state reader.old) }
+        ≡ address_skipped prefixes.now modrm (T.state reader.old) }
 {
     if modrm.is_memory() {
-        let raw = read_raw(reader, prefixes, modrm.byte())?;
-        Ok(Some(raw))
-    } else {
-        Ok(None)
+        read_raw(reader, prefixes, modrm.byte())?;
     }
+    Ok(())
 }
 
-impl Operands {
-    /// The operands in order, each with its immediate.
-    #[tactic(auto, unfolding(crate::specs::PlanSteps::filled_step, crate::specs::PlanSteps::operands_step))]
-    fn put_operands<T: Reader<u64, u8>>(
-        &mut self,
-        reader: &mut T,
-        encodings: OperandEncodings,
-        prefixes: &Prefixes,
-        modrm: ModRM,
-        memory: Option<Raw>,
-    ) -> Result<(), DecodeError>
-        requires { self.old ≡ no_operands }
-        ensures { outcome (value_if_ok result self.new) (T.state reader.new)
-            ≡ filled_step (list_of encodings) prefixes.now modrm memory (T.state reader.old) }
+impl PrefixChange {
+    /// The prefixes with the change.
+    fn of(self, prefixes: &Prefixes) -> Prefixes
+        ensures { result ≡ changed self prefixes.now }
     {
-        match encodings {
-            OperandEncodings::Zero => Ok(()),
-            OperandEncodings::One(a) => {
-                self.count = 1;
-                self.put_encoded(0, reader, a, prefixes, modrm, memory)
-            }
-            OperandEncodings::Two(a, b) => {
-                self.count = 2;
-                self.put_encoded(0, reader, a, prefixes, modrm, memory)?;
-                self.put_encoded(1, reader, b, prefixes, modrm, memory)
-            }
-            OperandEncodings::Three(a, b, c) => {
-                self.count = 3;
-                self.put_encoded(0, reader, a, prefixes, modrm, memory)?;
-                self.put_encoded(1, reader, b, prefixes, modrm, memory)?;
-                self.put_encoded(2, reader, c, prefixes, modrm, memory)
-            }
-            OperandEncodings::Four(a, b, c, d) => {
-                self.count = 4;
-                self.put_encoded(0, reader, a, prefixes, modrm, memory)?;
-                self.put_encoded(1, reader, b, prefixes, modrm, memory)?;
-                self.put_encoded(2, reader, c, prefixes, modrm, memory)?;
-                self.put_encoded(3, reader, d, prefixes, modrm, memory)
-            }
+        match self {
+            PrefixChange::Keeps => *prefixes,
+            PrefixChange::ClearsOperandSize => prefixes.without_operand_size(),
+            PrefixChange::SetsEs => prefixes.with_es(),
         }
     }
 }
 
-/// What a record has after its ModRM, written into blank operands, and the places of its parts.
-#[tactic(auto, unfolding(crate::specs::PlanSteps::read_plan))]
-pub fn read_plan_into<T: Reader<u64, u8>>(
-    reader: &mut T,
-    plan: &Plan,
-    modrm: ModRM,
-    prefixes: &mut Prefixes,
-    opcode: &mut Opcode,
-    operand_list: &mut Operands,
-    places: &mut Places,
-) -> Result<(), DecodeError>
-    requires { operand_list.old ≡ no_operands }
-    ensures read { outcome
-        (value_if_ok result (reading_with opcode.new prefixes.new operand_list.new))
-        (T.state reader.new) ≡ read_plan plan.now prefixes.old modrm (T.state reader.old) }
-    ensures places { OnOk result (places.new ≡ plan_places plan.now prefixes.old modrm
-        (T.state reader.old) places.old.opcode_end) }
-{
-    refuse_at(plan.verdict, Moment::AtModRM)?;
-    let memory = read_memory(reader, prefixes, modrm)?;
-    places.address_end = place_of(reader.offset());
-    places.has_suffix = matches!(plan.verdict, Verdict::NamedBySuffix);
-    refuse_at(plan.verdict, Moment::AfterAddress)?;
-    operand_list.put_operands(reader, plan.encodings, prefixes, modrm, memory)?;
-    *opcode = read_opcode(reader, plan.verdict, plan.opcode)?;
-    refuse_at(plan.verdict, Moment::AfterSuffix)?;
-    operand_list.mem_size = plan.size;
-    match plan.change {
-        PrefixChange::Keeps => {}
-        PrefixChange::ClearsOperandSize => *prefixes = prefixes.without_operand_size(),
-        PrefixChange::SetsEs => *prefixes = prefixes.with_es(),
+impl TemplateRow {
+    /// Whether a last byte names the operation.
+    pub(crate) fn has_suffix(&self) -> bool
+        ensures { result ≡ uses_suffix self.now.verdict }
+    {
+        matches!(self.verdict, Verdict::NamedBySuffix)
     }
-    Ok(())
+
+    /// Whether no operand has SIB and displacement: the row is refused before the operands, or there is none of rm.
+    fn skips_address(&self) -> bool
+        ensures { result ≡ skips_address self.now }
+    {
+        matches!(self.verdict, Verdict::Refuses(_, Moment::AfterAddress))
+            || matches!(self.template.order.rm, Position::Nowhere)
+    }
+
+    /// The refusals before the operands, and what no operand has.
+    fn refuse_early<T: Reader<u64, u8>>(
+        &self,
+        reader: &mut T,
+        prefixes: &Prefixes,
+        modrm: ModRM,
+    ) -> Result<(), DecodeError>
+        ensures { outcome result (T.state reader.new)
+            ≡ early_step self.now prefixes.now modrm (T.state reader.old) }
+    {
+        refuse_at(self.verdict, Moment::AtModRM)?;
+        if self.skips_address() {
+            skip_address(reader, prefixes, modrm)?;
+            return refuse_at(self.verdict, Moment::AfterAddress);
+        }
+        refuse_at(self.verdict, Moment::AfterAddress)
+    }
+
+    /// What the row has after its ModRM, written into blank operands, and the places of its parts; `own` is the row in
+    /// the opcode map.
+    #[tactic(auto, using(crate::proofs::ReadLemmas::row_is_read, crate::proofs::ReadLemmas::places_are, crate::proofs::TemplateLemmas::sound_template, crate::proofs::TemplateLemmas::fits_placed))]
+    pub fn read_into<T: Reader<u64, u8>>(
+        &self,
+        own: &TableRow,
+        reader: &mut T,
+        modrm: ModRM,
+        prefixes: &mut Prefixes,
+        opcode: &mut Opcode,
+        operand_list: &mut Operands,
+        places: &mut Places,
+    ) -> Result<(), DecodeError>
+        requires form { IsForm own.now.form }
+        requires blank { operand_list.old ≡ no_operands }
+        requires sound { is_sound_row self.now ≡ true }
+        requires placed { is_placed self.now.at.place modrm ≡ true }
+        ensures read { outcome
+            (value_if_ok result (reading_with opcode.new prefixes.new operand_list.new))
+            (T.state reader.new) ≡ read_plan
+            (plan_of_row (form_row self.now) own.now prefixes.old modrm) prefixes.old modrm
+            (T.state reader.old) }
+        ensures places { OnOk result (places.new ≡ plan_places
+            (plan_of_row (form_row self.now) own.now prefixes.old modrm) prefixes.old modrm
+            (T.state reader.old) places.old.opcode_end) }
+    {
+        self.refuse_early(reader, prefixes, modrm)?;
+        operand_list.read_all(
+            reader,
+            &self.template,
+            own,
+            prefixes,
+            modrm,
+            &mut places.address_end,
+        )?;
+        places.has_suffix = self.has_suffix();
+        *opcode = read_opcode(reader, self.verdict, self.opcode(own, modrm))?;
+        refuse_at(self.verdict, Moment::AfterSuffix)?;
+        *prefixes = self.change.of(prefixes);
+        Ok(())
+    }
+
+    /// What the row has after its ModRM; `own` is the row in the opcode map.
+    pub fn read<T: Reader<u64, u8>>(
+        &self,
+        own: &TableRow,
+        reader: &mut T,
+        modrm: ModRM,
+        prefixes: Prefixes,
+    ) -> Result<Reading, DecodeError>
+        requires form { IsForm own.now.form }
+        requires sound { is_sound_row self.now ≡ true }
+        requires placed { is_placed self.now.at.place modrm ≡ true }
+        ensures { outcome result (T.state reader.new) ≡ read_plan
+            (plan_of_row (form_row self.now) own.now prefixes modrm) prefixes modrm
+            (T.state reader.old) }
+    {
+        let mut prefixes = prefixes;
+        let mut opcode = own.opcode;
+        let mut operand_list = Operands::none();
+        let mut places = Places::NONE;
+        self.read_into(
+            own,
+            reader,
+            modrm,
+            &mut prefixes,
+            &mut opcode,
+            &mut operand_list,
+            &mut places,
+        )?;
+        Ok(Reading {
+            opcode,
+            count: operand_list.count,
+            slots: operand_list.slots,
+            operands: operand_list.operands,
+            mem_size: operand_list.mem_size,
+            prefixes,
+        })
+    }
 }
 
 /// The ModRM byte as a row uses it.
@@ -212,37 +267,4 @@ pub fn read_modrm<T: Reader<u64, u8>>(reader: &mut T, modrm: ModrmUse) -> Result
             Ok(used_modrm(modrm, Some(byte)))
         }
     }
-}
-
-/// What a record has after its ModRM.
-pub fn read_plan<T: Reader<u64, u8>>(
-    reader: &mut T,
-    plan: &Plan,
-    prefixes: Prefixes,
-    modrm: ModRM,
-) -> Result<Reading, DecodeError>
-    ensures { outcome result (T.state reader.new)
-        ≡ read_plan plan.now prefixes modrm (T.state reader.old) }
-{
-    let mut prefixes = prefixes;
-    let mut opcode = plan.opcode;
-    let mut operand_list = Operands::none();
-    let mut places = Places::NONE;
-    read_plan_into(
-        reader,
-        plan,
-        modrm,
-        &mut prefixes,
-        &mut opcode,
-        &mut operand_list,
-        &mut places,
-    )?;
-    Ok(Reading {
-        opcode,
-        count: operand_list.count,
-        slots: operand_list.slots,
-        operands: operand_list.operands,
-        mem_size: operand_list.mem_size,
-        prefixes,
-    })
 }

@@ -1,9 +1,12 @@
 //! Rows of forms: where each is, and what it has there. The first row that holds counts.
-ghost use Rattle.std.specs.Prelude.{◌≡◌, ◌&&◌};
-ghost use Rattle.x86_operands.specs.Columns.{choose, is_placed, is_prefixed, is_reg, is_rm, is_named, plan_of_row};
+ghost use Rattle.std.specs.Prelude.{◌≡◌, ◌&&◌, map, true};
+ghost use Rattle.std.specs.List.{list_all};
+ghost use Rattle.x86_operands.specs.Columns.{choose, is_placed, is_prefixed, is_reg, is_rm, is_named, opcode_of};
+ghost use Rattle.x86_operands.specs.Templates.{form_row, is_sound_row};
 
-use crate::encodings::Size;
-use crate::plans::{OperandEncodings, Plan, PrefixChange, Verdict};
+use crate::plans::{OperandEncoding, OperandEncodings, PrefixChange, Verdict};
+use crate::sizing::Size;
+use crate::templates::Template;
 use x86_fields::{Mandatory, ModRM, Prefixes};
 use x86_forms::TableRow;
 use x86_opcodes::Opcode;
@@ -91,7 +94,7 @@ pub struct Where {
     pub rm: Rm,
 }
 
-/// A row of a form: where it is, and what it has there.
+/// A row of a form as the definitions have it: where it is, and what it has there.
 #[derive(Clone, Copy, Drop)]
 pub struct FormRow {
     pub at: Where,
@@ -108,18 +111,38 @@ pub struct FormRow {
     pub verdict: Verdict,
 }
 
+/// A row of a form as it is read: the same, with a template for its operands.
+#[derive(Clone, Copy, Drop)]
+pub struct TemplateRow {
+    pub at: Where,
+    pub when: When,
+    pub names: Names,
+    pub template: Template,
+    pub change: PrefixChange,
+    pub verdict: Verdict,
+}
+
+impl Place {
+    /// Whether a row is at a ModRM byte; one that isn't there reads as C0.
+    #[inline(always)]
+    pub(crate) fn has(self, modrm: ModRM) -> bool
+        ensures { result ≡ is_placed self modrm }
+    {
+        match self {
+            Place::Memory => modrm.is_memory(),
+            Place::Register => !modrm.is_memory(),
+            Place::Bare | Place::Either => true,
+        }
+    }
+}
+
 impl Where {
     /// Whether a row is at a ModRM byte, if it has a name there.
     fn has(&self, strict: bool, modrm: ModRM) -> bool
         ensures { result ≡ is_placed self.now.place modrm && (is_reg self.now.reg modrm
             && is_rm self.now.rm strict modrm) }
     {
-        let has_form = match self.place {
-            Place::Memory => modrm.is_memory(),
-            Place::Register => !modrm.is_memory(),
-            Place::Bare | Place::Either => true,
-        };
-        if !has_form {
+        if !self.place.has(modrm) {
             return false;
         }
         let has_reg = match self.reg {
@@ -136,7 +159,7 @@ impl Where {
     }
 }
 
-impl FormRow {
+impl TemplateRow {
     /// Whether the row has its prefixes, and a name at a ModRM byte.
     fn holds(&self, own: &TableRow, prefixes: &Prefixes, modrm: ModRM) -> bool
         ensures { result ≡ is_prefixed self.now.when own.now prefixes.now
@@ -174,28 +197,32 @@ impl FormRow {
     }
 }
 
-/// The first row that is there; `own` is the row in the opcode map.
+/// The first row that is there; `own` is the row in the opcode map. Where none is, the opcode is refused.
+#[tactic(auto, using(crate::proofs::TemplateLemmas::sound_at))]
 pub fn choose(
-    rows: &[FormRow],
+    rows: &[TemplateRow],
     own: &TableRow,
     strict: bool,
     prefixes: &Prefixes,
     modrm: ModRM,
-) -> FormRow
-    ensures { result ≡ choose rows.now own.now strict prefixes.now modrm }
+) -> TemplateRow
+    ensures row { form_row result
+        ≡ choose (map form_row rows.now) own.now strict prefixes.now modrm }
+    ensures sound { list_all is_sound_row rows.now ≡ true → is_sound_row result ≡ true }
+    ensures placed { is_placed result.at.place modrm ≡ true }
 {
     for row in rows {
         if row.at.has(strict, modrm) && row.holds(own, prefixes, modrm) {
             return *row;
         }
     }
-    refusal!(Either Reg::Any, Rm::Any; When::Always; OperandEncodings::Zero; BadOpcode AtModRM)
+    refused!(Either Reg::Any, Rm::Any; When::Always; NO B false B OperandEncoding::ABSENT, OperandEncoding::ABSENT; BadOpcode AtModRM)
 }
 
-impl FormRow {
-    /// The plan at a ModRM byte; `own` is the row in the opcode map.
-    pub fn plan(&self, own: &TableRow, prefixes: &Prefixes, modrm: ModRM) -> Plan
-        ensures { result ≡ plan_of_row self.now own.now prefixes.now modrm }
+impl TemplateRow {
+    /// The operation at a ModRM byte; `own` is the row in the opcode map.
+    pub(crate) fn opcode(&self, own: &TableRow, modrm: ModRM) -> Opcode
+        ensures { result ≡ opcode_of self.now.names own.now modrm }
     {
         let number = match self.names {
             Names::Own => own.opcode.number(),
@@ -203,20 +230,6 @@ impl FormRow {
             Names::ByReg(names) => names[modrm.reg_field() as usize],
             Names::ByRm(names) => names[modrm.rm_field() as usize],
         };
-        let size = if modrm.is_memory() {
-            self.in_memory
-        } else {
-            self.in_register
-        };
-        Plan {
-            opcode: Opcode::from_number(number as u64).unwrap_or(Opcode::Invalid),
-            encodings: self.operands.settled(own.form.carried(), prefixes),
-            size: match size {
-                RowSize::Bytes(bytes) => bytes,
-                RowSize::Of(size) => size.bytes(own.opcode, prefixes.size_prefixes()),
-            },
-            change: self.change,
-            verdict: self.verdict,
-        }
+        Opcode::from_number(number as u64).unwrap_or(Opcode::Invalid)
     }
 }

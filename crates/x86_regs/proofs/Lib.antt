@@ -1,3 +1,4 @@
--- The lemmas on names of registers, and on the order of classes.
+-- The lemmas on names of registers, on the order of classes, and on what is hashed.
 mod NameLemmas
 mod OrderLemmas
+mod HashLemmas

@@ -25,11 +25,15 @@ pub fn registers_are_ordered()
     ensures agrees { (a b : RegSpec) → ⟦<RegSpec as Ord>⟧.cmp a b ≡ Ordering.Equal ↔ (a ≡ b) }
 {}
 
-/// Two registers are equal exactly where number and class are, and equal registers hash equally.
+/// Two registers are equal exactly where number and class are. Equal registers hash equally, and others from other
+/// bytes.
+#[tactic(auto, using(crate::proofs::HashLemmas::registers_apart))]
 pub fn registers_are_equal()
     ensures exactly { (a b : RegSpec) → IsTrue (⟦<RegSpec as PartialEq>⟧.eq a b) ↔ (a ≡ b) }
     ensures hashed { (a b : RegSpec) → IsTrue (⟦<RegSpec as PartialEq>⟧.eq a b) →
         ⟦<RegSpec as Hash>⟧.hash_input a ≡ ⟦<RegSpec as Hash>⟧.hash_input b }
+    ensures apart { (a b : RegSpec) → ⟦<RegSpec as Hash>⟧.hash_input a
+        ≡ ⟦<RegSpec as Hash>⟧.hash_input b → a ≡ b }
 {}
 
 /// Classes are ordered by their codes, and the order is total.
@@ -43,19 +47,26 @@ pub fn classes_are_ordered()
         ⟦<RegisterClass as Ord>⟧.cmp a b ≡ Ordering.Equal ↔ (a ≡ b) }
 {}
 
-/// Two classes are equal exactly where they are the same, and equal classes hash equally.
+/// Two classes are equal exactly where they are the same. Equal classes hash equally, and others from other bytes.
+#[tactic(auto, using(crate::proofs::HashLemmas::classes_apart))]
 pub fn classes_are_equal()
     ensures exactly { (a b : RegisterClass) →
         IsTrue (⟦<RegisterClass as PartialEq>⟧.eq a b) ↔ (a ≡ b) }
     ensures hashed { (a b : RegisterClass) → IsTrue (⟦<RegisterClass as PartialEq>⟧.eq a b) →
         ⟦<RegisterClass as Hash>⟧.hash_input a ≡ ⟦<RegisterClass as Hash>⟧.hash_input b }
+    ensures apart { (a b : RegisterClass) → ⟦<RegisterClass as Hash>⟧.hash_input a
+        ≡ ⟦<RegisterClass as Hash>⟧.hash_input b → a ≡ b }
 {}
 
-/// Segments and modes are equal exactly where they are the same, and equal segments hash equally.
+/// Segments and modes are equal exactly where they are the same. Equal segments hash equally, and others from other
+/// bytes.
+#[tactic(auto, using(crate::proofs::HashLemmas::segments_apart))]
 pub fn modes_are_equal()
     ensures segments { (a b : Segment) → IsTrue (⟦<Segment as PartialEq>⟧.eq a b) ↔ (a ≡ b) }
     ensures hashed { (a b : Segment) → IsTrue (⟦<Segment as PartialEq>⟧.eq a b) →
         ⟦<Segment as Hash>⟧.hash_input a ≡ ⟦<Segment as Hash>⟧.hash_input b }
+    ensures apart { (a b : Segment) → ⟦<Segment as Hash>⟧.hash_input a
+        ≡ ⟦<Segment as Hash>⟧.hash_input b → a ≡ b }
     ensures merging { (a b : MergeMode) → IsTrue (⟦<MergeMode as PartialEq>⟧.eq a b) ↔ (a ≡ b) }
     ensures rounding { (a b : SaeMode) → IsTrue (⟦<SaeMode as PartialEq>⟧.eq a b) ↔ (a ≡ b) }
 {}

@@ -66,45 +66,40 @@ fn compute_an_address(rt: HostRuntime) {
 
 /// Whether an operand is memory.
 fn has_memory(instruction: &Instruction) -> bool {
-    for i in 0..4u8 {
-        if instruction.operand(i).is_memory() {
+    for operand in instruction.operands() {
+        if operand.is_memory() {
             return true;
         }
     }
     false
 }
 
-/// The base and the index of memory.
-fn registers_of(operand: Operand) -> (Option<RegSpec>, Option<RegSpec>) {
-    match operand {
-        Operand::MemDeref { base } | Operand::Disp { base, .. } => (Some(base), None),
-        Operand::MemIndexScale { index, .. } | Operand::MemIndexScaleDisp { index, .. } => {
-            (None, Some(index))
-        }
-        Operand::MemBaseIndexScale { base, index, .. }
-        | Operand::MemBaseIndexScaleDisp { base, index, .. } => (Some(base), Some(index)),
-        _ => (None, None),
+/// The displacement of memory that is relative to the next instruction.
+fn relative_displacement(instruction: &Instruction, i: u8) -> Option<i32> {
+    let operand = instruction.operand(i);
+    let parts = operand.address_parts(instruction.prefixes.address_size())?;
+    if operand.is_ip_relative() {
+        Some(parts.disp)
+    } else {
+        None
     }
 }
 
 #[test]
 fn match_an_operand(rt: HostRuntime) {
-    // add [rax + 8], ebx; add eax, [rbx + rcx * 4 - 16]; add rax, [r12 * 1]
+    // add [rax + 8], ebx
     let sum = decoded(&[0x01, 0x58, 0x08]);
     assert!(rt; has_memory(&sum));
-    assert!(rt; registers_of(sum.operand(0)) == (Some(RegSpec::rax()), None));
-    assert!(rt; registers_of(sum.operand(1)) == (None, None));
-    let (base, index) = registers_of(decoded(&[0x03, 0x44, 0x8b, 0xf0]).operand(1));
-    assert!(rt; base == Some(RegSpec::rbx()) && index == Some(RegSpec::rcx()));
-    let (base, index) = registers_of(decoded(&[0x4a, 0x03, 0x04, 0x25, 0, 0, 0, 0]).operand(1));
-    assert!(rt; base.is_none() && matches!(index, Some(index) if index.num() == 12));
+    assert!(rt; relative_displacement(&sum, 0).is_none());
+    // mov eax, [rip - 8]
+    let load = decoded(&[0x8b, 0x05, 0xf8, 0xff, 0xff, 0xff]);
+    assert!(rt; has_memory(&load));
+    assert!(rt; relative_displacement(&load, 1) == Some(-8));
+    assert!(rt; relative_displacement(&load, 4).is_none());
 }
 
 /// Whether the visitor answers this operand.
 fn visits(instruction: &Instruction, index: u8, operand: Operand) -> bool {
-    if index >= 4 {
-        return false;
-    }
     match &instruction.visit_operand(index, &mut Rebuilder) {
         Ok(rebuilt) => *rebuilt == operand,
         Err(_) => false,
@@ -119,6 +114,7 @@ fn walk_the_operands(rt: HostRuntime) {
     assert!(rt; visits(&sum, 0, Operand::Disp { base, disp: 8 }));
     assert!(rt; visits(&sum, 1, Operand::Register { reg }));
     assert!(rt; visits(&sum, 2, Operand::Nothing));
+    assert!(rt; visits(&sum, 255, Operand::Nothing));
     assert!(rt; sum.operand_count() == 2);
 }
 

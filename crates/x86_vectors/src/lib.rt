@@ -8,6 +8,8 @@ mod bound_tests;
 #[cfg(test)]
 mod decoding;
 #[cfg(test)]
+mod flow_tests;
+#[cfg(test)]
 mod group_table;
 #[cfg(test)]
 mod guide_tests;

@@ -1,5 +1,6 @@
 //! Operands: the visitor, and the addresses that operands denote.
 
+use crate::decoding::decoded;
 use crate::rebuilder::Rebuilder;
 use x86_arch::U8Reader;
 use x86_decode::InstDecoder;
@@ -185,4 +186,93 @@ fn addresses_by_hand(rt: HostRuntime) {
             "at {sum}"
         );
     }
+}
+
+/// Whether operand 1 of some bytes is relative to the next instruction.
+fn is_relative(bytes: &[u8]) -> bool {
+    decoded(bytes).operand(1).is_ip_relative()
+}
+
+#[test]
+fn relative_to_the_next_instruction(rt: HostRuntime) {
+    assert!(rt; is_relative(&[0x8b, 0x05, 0x00, 0x00, 0x00, 0x00]));
+    assert!(rt; is_relative(&[0x8b, 0x05, 0x08, 0x00, 0x00, 0x00]));
+    assert!(rt; is_relative(&[0x67, 0x8b, 0x05, 0x08, 0x00, 0x00, 0x00]));
+    assert!(rt; !is_relative(&[0x8b, 0x00]));
+    assert!(rt; !is_relative(&[0x8b, 0x04, 0x25, 0x10, 0x00, 0x00, 0x00]));
+    assert!(rt; !is_relative(&[0x83, 0xc0, 0xff]));
+}
+
+/// Whether operand 1 of some bytes has these parts of its address.
+fn has_parts(
+    bytes: &[u8],
+    base: Option<RegSpec>,
+    index: Option<RegSpec>,
+    scale: u8,
+    disp: i32,
+) -> bool {
+    match decoded(bytes).operand(1).address_parts(false) {
+        Some(parts) => {
+            let registers = parts.base == base && parts.index == index && parts.scale == scale;
+            registers && parts.disp == disp && !parts.address_size
+        }
+        None => false,
+    }
+}
+
+#[test]
+fn parts_of_addresses(rt: HostRuntime) {
+    let (rax, rcx) = (Some(RegSpec::rax()), Some(RegSpec::rcx()));
+    assert!(rt; has_parts(&[0x8b, 0x44, 0x88, 0xf8], rax, rcx, 4, -8));
+    assert!(rt; has_parts(&[0x8b, 0x04, 0x88], rax, rcx, 4, 0));
+    assert!(rt; has_parts(&[0x8b, 0x40, 0x7f], rax, None, 1, 127));
+    assert!(rt; has_parts(&[0x8b, 0x00], rax, None, 1, 0));
+    assert!(rt; has_parts(&[0x8b, 0x04, 0xcd, 0x00, 0x00, 0x00, 0x00], None, rcx, 8, 0));
+    assert!(rt;
+        has_parts(
+            &[0x8b, 0x04, 0xcd, 0x10, 0x00, 0x00, 0x00],
+            None,
+            rcx,
+            8,
+            16
+        )
+    );
+    assert!(rt;
+        has_parts(
+            &[0x8b, 0x04, 0x25, 0xff, 0xff, 0xff, 0xff],
+            None,
+            None,
+            1,
+            -1
+        )
+    );
+    assert!(rt;
+        has_parts(
+            &[0x8b, 0x05, 0x00, 0x00, 0x00, 0x00],
+            Some(RegSpec::rip()),
+            None,
+            1,
+            0
+        )
+    );
+    assert!(rt; !has_parts(&[0xa1, 0x10, 0, 0, 0, 0, 0, 0, 0], None, None, 1, 16));
+}
+
+/// Whether an operand of some bytes is an immediate of this number.
+fn has_number(bytes: &[u8], i: u8, wanted: i64) -> bool {
+    decoded(bytes).operand(i).immediate() == Some(wanted)
+}
+
+#[test]
+fn numbers_of_immediates(rt: HostRuntime) {
+    assert!(rt; has_number(&[0x83, 0xc0, 0xff], 1, -1));
+    assert!(rt; has_number(&[0xcd, 0x80], 0, 128));
+    assert!(rt; has_number(&[0x66, 0x05, 0xfe, 0xff], 1, -2));
+    assert!(rt; has_number(&[0xc2, 0xff, 0xff], 0, 65535));
+    assert!(rt; has_number(&[0x05, 0x00, 0x00, 0x00, 0x80], 1, -2147483648));
+    assert!(rt; has_number(&[0x48, 0xc7, 0xc0, 0xff, 0xff, 0xff, 0xff], 1, -1));
+    assert!(rt; has_number(&[0x48, 0xb8, 0, 0, 0, 0, 0, 0, 0, 0x80], 1, i64::MIN));
+    assert!(rt; Operand::ImmediateU32 { imm: u32::MAX }.immediate() == Some(4294967295));
+    assert!(rt; Operand::ImmediateU64 { imm: u64::MAX }.immediate() == Some(-1));
+    assert!(rt; decoded(&[0x8b, 0x00]).operand(1).immediate().is_none());
 }

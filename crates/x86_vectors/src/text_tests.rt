@@ -47,6 +47,21 @@ fn spellings(rt: HostRuntime) {
     assert!(rt; Opcode::GF2P8AFFINEINVQB.mnemonic() == "GF2P8AFFINEINVQB");
     assert!(rt; Opcode::Invalid.mnemonic() == "Invalid");
     assert!(rt; Opcode::from_number(u64::MAX).is_none());
+    assert!(rt; Opcode::from_number(Opcode::COUNT as u64).is_none());
+}
+
+/// Whether `{:?}` of an opcode is this text.
+fn is_debugged(alloc: Global, opcode: Opcode, text: &str) -> bool {
+    match format!(in alloc; "{opcode:?}") {
+        Ok(shown) => shown.as_str() == text,
+        Err(_) => false,
+    }
+}
+
+#[test]
+fn opcodes_by_their_names(rt: HostRuntime) {
+    assert!(rt; is_debugged(rt.alloc(), Opcode::ADD, "ADD"));
+    assert!(rt; is_debugged(rt.alloc(), Opcode::GF2P8AFFINEINVQB, "GF2P8AFFINEINVQB"));
 }
 
 /// Whether this is a line where the format has a width of 6.

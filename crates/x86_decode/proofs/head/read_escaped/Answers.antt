@@ -24,23 +24,27 @@ returns-in_err-next-in-56 g c =
     let d = c.in_ok-opcode.opcode in
     let r : c.from_residual-in_err-next-in-56.result ≡ Err ExhaustedInput = search rules in
     let third : (v : State ℕ) → third_byte Of38 v ≡ read_escaped d v = λ v. rw c.in-56.is refl in
-    rw r (then_third Of38 d (Err ExhaustedInput) _ _ _ (byte_is _ _ d c.in_ok-opcode.ensures.taken c.in_ok-opcode.ensures.moved) third (none_is _ _ c.in_err-next-in-56.ensures.none_left c.in_err-next-in-56.ensures.unmoved))
+    rw r (then_third Of38 d (Err ExhaustedInput) _ _ _ (byte_is _ _ d c.in_ok-opcode.ensures.taken c.in_ok-opcode.ensures.moved) third
+    (none_is _ _ c.in_err-next-in-56.ensures.none_left c.in_err-next-in-56.ensures.unmoved))
 
 pub returns-in_ok-next-in-56 : goal.returns-in_ok-next-in-56
 returns-in_ok-next-in-56 g c =
     let d = c.in_ok-opcode.opcode in
     let third : (v : State ℕ) → third_byte Of38 v ≡ read_escaped d v = λ v. rw c.in-56.is refl in
-    then_third Of38 d (Ok c.in_ok-next-in-56.field-0) _ _ _ (byte_is _ _ d c.in_ok-opcode.ensures.taken c.in_ok-opcode.ensures.moved) third (byte_is _ _ c.in_ok-next-in-56.field-0 c.in_ok-next-in-56.ensures.taken c.in_ok-next-in-56.ensures.moved)
+    then_third Of38 d (Ok c.in_ok-next-in-56.field-0) _ _ _ (byte_is _ _ d c.in_ok-opcode.ensures.taken c.in_ok-opcode.ensures.moved) third
+    (byte_is _ _ c.in_ok-next-in-56.field-0 c.in_ok-next-in-56.ensures.taken c.in_ok-next-in-56.ensures.moved)
 
 pub returns-in_err-next-in-58 : goal.returns-in_err-next-in-58
 returns-in_err-next-in-58 g c =
     let d = c.in_ok-opcode.opcode in
     let r : c.from_residual-in_err-next-in-58.result ≡ Err ExhaustedInput = search rules in
     let third : (v : State ℕ) → third_byte Of3a v ≡ read_escaped d v = λ v. rw c.in-58.is refl in
-    rw r (then_third Of3a d (Err ExhaustedInput) _ _ _ (byte_is _ _ d c.in_ok-opcode.ensures.taken c.in_ok-opcode.ensures.moved) third (none_is _ _ c.in_err-next-in-58.ensures.none_left c.in_err-next-in-58.ensures.unmoved))
+    rw r (then_third Of3a d (Err ExhaustedInput) _ _ _ (byte_is _ _ d c.in_ok-opcode.ensures.taken c.in_ok-opcode.ensures.moved) third
+    (none_is _ _ c.in_err-next-in-58.ensures.none_left c.in_err-next-in-58.ensures.unmoved))
 
 pub returns-in_ok-next-in-58 : goal.returns-in_ok-next-in-58
 returns-in_ok-next-in-58 g c =
     let d = c.in_ok-opcode.opcode in
     let third : (v : State ℕ) → third_byte Of3a v ≡ read_escaped d v = λ v. rw c.in-58.is refl in
-    then_third Of3a d (Ok c.in_ok-next-in-58.field-0) _ _ _ (byte_is _ _ d c.in_ok-opcode.ensures.taken c.in_ok-opcode.ensures.moved) third (byte_is _ _ c.in_ok-next-in-58.field-0 c.in_ok-next-in-58.ensures.taken c.in_ok-next-in-58.ensures.moved)
+    then_third Of3a d (Ok c.in_ok-next-in-58.field-0) _ _ _ (byte_is _ _ d c.in_ok-opcode.ensures.taken c.in_ok-opcode.ensures.moved) third
+    (byte_is _ _ c.in_ok-next-in-58.field-0 c.in_ok-next-in-58.ensures.taken c.in_ok-next-in-58.ensures.moved)

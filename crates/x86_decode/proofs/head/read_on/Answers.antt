@@ -13,13 +13,22 @@ returns-in_err-byte g c =
     let now = g.T.Reader.state c.run.reader in
     let after = g.T.Reader.state c.next.new.self in
     λ beginning e. ap (λ x. then_from x after (λ b. pure (c.run.prefixes, b))) r
-    ∙ lacks (beginning ++ c.run.invariant.more) now after ExhaustedInput (none_is now after c.in_err-byte.ensures.none_left c.in_err-byte.ensures.unmoved) ∙ c.run.invariant.same beginning
+    ∙ lacks (beginning ++ c.run.invariant.more) now after ExhaustedInput
+    (none_is now after c.in_err-byte.ensures.none_left c.in_err-byte.ensures.unmoved) ∙ c.run.invariant.same beginning
 
 pub returns-then-not-is_prefix : goal.returns-then-not-is_prefix
-returns-then-not-is_prefix g c = λ beginning e. stops (beginning ++ c.run.invariant.more) (g.T.Reader.state c.run.reader) (g.T.Reader.state c.next.new.self) c.run.prefixes c.in_ok-byte.byte (c.run.invariant.reading beginning e) (byte_is (g.T.Reader.state c.run.reader) (g.T.Reader.state c.next.new.self) c.in_ok-byte.byte c.in_ok-byte.ensures.taken c.in_ok-byte.ensures.moved) (search rules) ∙ c.run.invariant.same beginning
+returns-then-not-is_prefix g c = λ beginning e.
+    stops (beginning ++ c.run.invariant.more) (g.T.Reader.state c.run.reader)
+    (g.T.Reader.state c.next.new.self) c.run.prefixes c.in_ok-byte.byte (c.run.invariant.reading beginning e)
+    (byte_is (g.T.Reader.state c.run.reader) (g.T.Reader.state c.next.new.self) c.in_ok-byte.byte c.in_ok-byte.ensures.taken
+    c.in_ok-byte.ensures.moved) (search rules) ∙ c.run.invariant.same beginning
 
 pub run-smaller : goal.run-smaller
-run-smaller g c = gets_shorter c.in_ok-byte.byte (g.T.Reader.state c.run.reader) (g.T.Reader.state c.next.new.self) (byte_is (g.T.Reader.state c.run.reader) (g.T.Reader.state c.next.new.self) c.in_ok-byte.byte c.in_ok-byte.ensures.taken c.in_ok-byte.ensures.moved)
+run-smaller g c = gets_shorter c.in_ok-byte.byte (g.T.Reader.state c.run.reader) (g.T.Reader.state c.next.new.self)
+    (byte_is (g.T.Reader.state c.run.reader) (g.T.Reader.state c.next.new.self) c.in_ok-byte.byte c.in_ok-byte.ensures.taken c.in_ok-byte.ensures.moved)
 
 pub run-preserved : goal.run-preserved
-run-preserved g c = walk_goes (g.T.Reader.state c.args.reader.now) (g.T.Reader.state c.run.reader) (g.T.Reader.state c.next.new.self) c.args.prefixes.now c.run.prefixes c.after.result c.in_ok-byte.byte c.run.invariant (byte_is (g.T.Reader.state c.run.reader) (g.T.Reader.state c.next.new.self) c.in_ok-byte.byte c.in_ok-byte.ensures.taken c.in_ok-byte.ensures.moved) (search rules) c.after.ensures.reading
+run-preserved g c = walk_goes (g.T.Reader.state c.args.reader.now) (g.T.Reader.state c.run.reader)
+    (g.T.Reader.state c.next.new.self) c.args.prefixes.now c.run.prefixes c.after.result c.in_ok-byte.byte c.run.invariant
+    (byte_is (g.T.Reader.state c.run.reader) (g.T.Reader.state c.next.new.self) c.in_ok-byte.byte c.in_ok-byte.ensures.taken
+    c.in_ok-byte.ensures.moved) (search rules) c.after.ensures.reading

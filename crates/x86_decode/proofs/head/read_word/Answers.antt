@@ -18,7 +18,9 @@ returns-in_err-map-in-Escape g c =
 pub returns-in_ok-map-in-Escape : goal.returns-in_ok-map-in-Escape
 returns-in_ok-map-in-Escape g c =
     ap (λ q. found_word q c.word-word.result (g.T.Reader.state c.read_escaped.new.reader)) c.seen_by.ensures
-    ∙ ap (λ w. found_word (seen_by c.in_ok-map-in-Escape.map c.in_ok-map-in-Escape.opcode c.args.prefixes.now) w (g.T.Reader.state c.read_escaped.new.reader)) (c.word-word.ensures ∙ ap (λ k. g.W.Words.word c.args.rows.now c.in_ok-map-in-Escape.map k c.in_ok-map-in-Escape.opcode) c.column_of.ensures)
+    ∙ ap (λ w. found_word (seen_by c.in_ok-map-in-Escape.map c.in_ok-map-in-Escape.opcode c.args.prefixes.now) w
+    (g.T.Reader.state c.read_escaped.new.reader))
+    (c.word-word.ensures ∙ ap (λ k. g.W.Words.word c.args.rows.now c.in_ok-map-in-Escape.map k c.in_ok-map-in-Escape.opcode) c.column_of.ensures)
     ∙ found_escaped (rows_of (g.W.Words.word c.args.rows.now)) c.args.prefixes.now c.args.byte _ _ _ (search rules) c.in_ok-map-in-Escape.ensures
 
 pub returns-in-Vex : goal.returns-in-Vex
@@ -28,6 +30,8 @@ returns-in-Vex g c =
 
 pub returns-in_default : goal.returns-in_default
 returns-in_default g c =
-    let plain : is_plain (lead_of c.args.byte) ≡ true = ap is_plain (sym c.lead_of.ensures) ∙ plain_not c.lead_of.result c.in_default.not-Escape c.in_default.not-Vex in
-    ap (λ w. found_word c.args.prefixes.now w (g.T.Reader.state c.args.reader.now)) (c.word.ensures ∙ ap (λ k. g.W.Words.word c.args.rows.now One k c.args.byte) c.column_of-in_default.ensures)
+    let plain : is_plain (lead_of c.args.byte) ≡ true = ap is_plain (sym c.lead_of.ensures)
+    ∙ plain_not c.lead_of.result c.in_default.not-Escape c.in_default.not-Vex in
+    ap (λ w. found_word c.args.prefixes.now w (g.T.Reader.state c.args.reader.now))
+    (c.word.ensures ∙ ap (λ k. g.W.Words.word c.args.rows.now One k c.args.byte) c.column_of-in_default.ensures)
     ∙ found_plain (rows_of (g.W.Words.word c.args.rows.now)) c.args.prefixes.now c.args.byte (g.T.Reader.state c.args.reader.now) plain

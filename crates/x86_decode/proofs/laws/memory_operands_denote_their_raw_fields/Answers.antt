@@ -7,5 +7,6 @@ returns c =
     record {
       slot = λ rows strict s a is raw k memory named. (sentence_shape here.shapes rows strict s a is raw k memory named).0;
       operand = λ rows strict s a is raw k memory named. (sentence_shape here.shapes rows strict s a is raw k memory named).1;
-      address = λ rows strict s a is raw k memory named. sentence_address here.shapes rows strict s a is raw k memory named here.address_size c.shapes_have_the_address.ensures.form;
+      address = λ rows strict s a is raw k memory named.
+          sentence_address here.shapes rows strict s a is raw k memory named here.address_size c.shapes_have_the_address.ensures.form;
     }

@@ -15,4 +15,10 @@ invariant_of-result c =
     let form = form_of_word c.args.word _ row in
     let carries = carries_by_ordinal c.in_ok-form.form form.0 in
     let ordinal : ordinal_of c.in_ok-form.form ≡ c.args.word % 256 - 1 = omega (arith, form.1) in
-    record { of_word = row; form_number_is = form.1; number_is = λ below. ap (λ n. n % 8) (sym ordinal) ∙ carries.0 (omega (arith, ordinal, below)); small = omega arith; fits = form.0 }
+    record {
+      of_word = row;
+      form_number_is = form.1;
+      number_is = λ below. ap (λ n. n % 8) (sym ordinal) ∙ carries.0 (omega (arith, ordinal, below));
+      small = omega arith;
+      fits = form.0;
+    }

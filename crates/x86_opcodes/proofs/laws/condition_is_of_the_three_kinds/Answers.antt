@@ -5,7 +5,11 @@ use Rattle.x86_opcodes.proofs.laws.condition_is_of_the_three_kinds.Goals as goal
 some_in : (cs : List Conditional) (o : ℕ) → is_some (condition_in cs o) ≡ is_among (map (λ c. c.opcode) cs) o
 some_in [] o = refl
 some_in (c ∷ cs) o =
-    elim (eqb c.opcode o) as (λ b. is_some (cond b (Some c.code) (condition_in cs o)) ≡ (b || is_among (map (λ c. c.opcode) cs) o)) [ true ↦ refl | false ↦ some_in cs o ]
+    elim (eqb c.opcode o) as (λ b. is_some (cond b (Some c.code) (condition_in cs o)) ≡ (b || is_among (map (λ c. c.opcode) cs) o)) [
+      | true ↦
+          refl
+      | false ↦ some_in cs o
+    ]
 
 among_append : (os ps : List ℕ) (o : ℕ) → is_among (os ++ ps) o ≡ (is_among os o || is_among ps o)
 among_append [] ps o = refl

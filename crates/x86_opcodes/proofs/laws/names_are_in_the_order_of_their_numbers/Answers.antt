@@ -9,8 +9,11 @@ unfolding mnemonic
 nth n None e = tt
 nth n (Some r) e =
     let at : r.opcode ≡ n + 0 = numbered all_names 0 n r refl e in
-    let spelled = slice_get-map (λ r. r.spelled) all_names n ∙ ap (option_map (λ r. r.spelled)) e in
-    (omega (arith, at), sym (found all_names 0 n n refl (slice_get_within all_names n r e) (omega arith) ∙ get_or_from_slice_get (map (λ s. s.spelled) all_names) n r.spelled [] spelled))
+    let spelled = slice_get-map (λ r. r.spelled) all_names n ∙ ap (option_map (λ r. r.spelled)) e in (
+      omega (arith, at),
+      sym (found all_names 0 n n refl (slice_get_within all_names n r e) (omega arith)
+          ∙ get_or_from_slice_get (map (λ s. s.spelled) all_names) n r.spelled [] spelled),
+    )
 
 pub returns : goal.returns
 returns c n = nth n (slice_get all_names n) refl

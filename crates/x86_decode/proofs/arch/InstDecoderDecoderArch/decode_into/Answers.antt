@@ -12,7 +12,8 @@ module _ (rows : Rows) (strict : Bool) (input : List ℕ) (i : Instruction) (n :
   of_ok (Ok u) answer moved = (answer, moved)
   of_ok (Err e) answer moved = tt
 
-  of_err : (r : Result (Unit {0}) DecodeError) → IsAnswer rows strict input (holding i r) n → Moved → IfErr r (λ e. IsAnswer rows strict input (Err e) n × Moved)
+  of_err : (r : Result (Unit {0}) DecodeError) → IsAnswer rows strict input (holding i r) n → Moved →
+      IfErr r (λ e. IsAnswer rows strict input (Err e) n × Moved)
   of_err (Ok u) answer moved = tt
   of_err (Err e) answer moved = (answer, moved)
 

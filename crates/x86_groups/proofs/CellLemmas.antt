@@ -1,0 +1,287 @@
+-- The cells of the groups: each is the first row that may be at its mod and reg, where that is sure.
+use Rattle.std.proofs.Common.{true≢false, ◌≡◌, ℕ, zero, suc, ◌<◌, ◌+◌, ◌-◌, ◌==◌, nat_lt, Bool, true, false, not, ◌&&◌, ◌||◌, if◌then◌else◌}
+use Rattle.std.proofs.Common.{List, [], ◌∷◌, length, take, drop, get_or, refl, sym, ap, subst, ◌∙◌, arith, length-drop}
+use Rattle.std.specs.List.{list_all}
+use Rattle.std.proofs.lemmas.Bool.{and_parts, eqb-true, ltb-true, leb-true}
+use Rattle.std.proofs.lemmas.List.{get_or-drop, get_or-take, get_or_default, length-take-le}
+use Rattle.std.proofs.lemmas.List.Elements.{All-get_or}
+use Rattle.std.proofs.lemmas.List.Sums.{AllPass-from_list_all}
+use Rattle.x86_groups.specs.Vocabulary.{Form, Names, Prefixes, TableRow, is_memory, reg_field}
+use Rattle.x86_forms.specs.declared.Form.TheVariants as form
+use Rattle.x86_forms.specs.declared.words.WordRow.{WordRow}
+use Rattle.x86_forms.specs.Groups.{is_group}
+use Rattle.x86_forms.specs.Ordinals.{first_ordinal_of, ordinal_of}
+use Rattle.x86_forms.specs.Words.{carried}
+use Rattle.x86_operands.specs.declared.rows.Place.{Place}
+use Rattle.x86_operands.specs.declared.rows.TemplateRow.{TemplateRow}
+use Rattle.x86_operands.specs.declared.rows.Names.TheVariants.{Name, ByReg, Own}
+use Rattle.x86_operands.specs.Columns.{choose, is_placed, name_at, named, opcode_of, plan_of_row}
+use Rattle.x86_operands.specs.Forms.{is_searched}
+use Rattle.x86_operands.specs.Templates.{is_read_at, template_plan}
+use Rattle.x86_operands.proofs.SureLemmas.{after, by_no_rm, chosen, has_free_sizes, is_read, is_sure, may_be, not_by_rm, placed_by, plan_is, sizes_by, sure_at}
+use Rattle.x86_groups.specs.declared.cells.Cell.{Cell}
+use Rattle.x86_groups.specs.declared.tables.TheConstants.{CELLS, CELLS_AT, ROWS, SPANS}
+use Rattle.x86_groups.specs.Groups.{group_plan, group_record, record_of}
+use Rattle.x86_groups.specs.Rows.{group_rows}
+use Rattle.x86_groups.proofs.HeadLemmas.{span_at}
+
+-- ---- the cells of a group by its rows
+
+abbrev span_of : Form → ℕ × ℕ
+span_of f = get_or SPANS.now (first_ordinal_of f) (0, 0)
+
+abbrev rows_of : Form → List TemplateRow
+rows_of f = take ((span_of f).1 - (span_of f).0) (drop (span_of f).0 ROWS.now)
+
+abbrev first_of : Form → ℕ
+first_of f = (span_of f).0
+
+abbrev number_at : Names → ℕ → ℕ
+number_at (Name n) k = n
+number_at (ByReg names) k = name_at names k
+number_at names k = 0
+
+abbrev number_in : List TemplateRow → ℕ → ℕ → ℕ
+number_in [] n k = 0
+number_in (row ∷ rest) zero k = number_at row.names k
+number_in (row ∷ rest) (suc n) k = number_in rest n k
+
+abbrev cell_from : List TemplateRow → ℕ → ℕ → ℕ → Cell
+cell_from rows first k zero = record { row = 0; number = 0 }
+cell_from rows first k (suc n) = record { row = first + n; number = number_in rows n k }
+
+abbrev cell_by : List TemplateRow → ℕ → Bool → ℕ → Cell
+cell_by rows first memory k = cell_from rows first k (sure_at rows memory k)
+
+abbrev cells_by : List TemplateRow → ℕ → List Cell
+cells_by rows first =
+    cell_by rows first true 0 ∷ cell_by rows first true 1 ∷ cell_by rows first true 2 ∷ cell_by rows first true 3 ∷
+    cell_by rows first true 4 ∷ cell_by rows first true 5 ∷ cell_by rows first true 6 ∷ cell_by rows first true 7 ∷
+    cell_by rows first false 0 ∷ cell_by rows first false 1 ∷ cell_by rows first false 2 ∷ cell_by rows first false 3 ∷
+    cell_by rows first false 4 ∷ cell_by rows first false 5 ∷ cell_by rows first false 6 ∷ cell_by rows first false 7 ∷ []
+
+-- ---- the table has them
+
+abbrev is_celled : Form → Bool
+is_celled f = is_group f && not (is_searched f)
+
+abbrev cells_of : Form → List Cell → List Cell
+cells_of f z = get_or CELLS.now (get_or CELLS_AT.now (first_ordinal_of f + 1) 0) z
+
+cells_are : (f : Form) (z : List Cell) → (if is_celled f then cells_of f z else []) ≡ (if is_celled f then cells_by (rows_of f) (first_of f) else [])
+unfolding sure_at
+cells_are (form.Zv_R n) z = refl
+cells_are f z = refl
+
+-- what a sure row of a group has: a name, no size by the operation, and no register of the opcode byte
+abbrev is_named_row : Names → Bool
+is_named_row Own = false
+is_named_row names = true
+
+abbrev has_modrm : Place → Bool
+has_modrm Place.Bare = false
+has_modrm place = true
+
+abbrev fits_cell : TemplateRow → Bool
+fits_cell row = (is_named_row row.names && has_modrm row.at.place) && (has_free_sizes row.template && not row.template.of_opcode)
+
+abbrev may_fit : TemplateRow → Bool
+may_fit row = not (is_sure row) || fits_cell row
+
+rows_fit : (f : Form) → (not (is_celled f) || list_all may_fit (rows_of f)) ≡ true
+rows_fit (form.Zv_R n) = refl
+rows_fit f = refl
+
+-- ---- the row of a cell
+
+record IsAt (rows : List TemplateRow) (m n : ℕ) (d : TemplateRow) : Type 0 where
+  inside : n < length rows
+  sure : is_sure (get_or rows n d) ≡ true
+  placed : is_placed (get_or rows n d).at.place m ≡ true
+  number : number_in rows n (reg_field m) ≡ number_at (get_or rows n d).names (reg_field m)
+
+module _ (m : ℕ) (d : TemplateRow) where
+  at_step : (row : TemplateRow) (rest : List TemplateRow) (may sure : Bool) (k n : ℕ) → may_be row (is_memory m) (reg_field m) ≡ may → is_sure row ≡ sure →
+      ((j : ℕ) → k ≡ suc j → IsAt rest m j d) → (if may then (if sure then 1 else 0) else after k) ≡ suc n → IsAt (row ∷ rest) m n d
+  at_step row rest true true k zero e s h is = record { inside = omega arith; sure = s; placed = placed_by row m e; number = refl }
+  at_step row rest false sure (suc k) (suc n) e s h is =
+      let next = h n (grind (arith, is)) in
+      record { inside = omega (arith, next.inside); sure = next.sure; placed = next.placed; number = next.number }
+  at_step row rest may sure k n e s h is = absurd (grind (arith, is))
+
+  is_at : (rows : List TemplateRow) (n : ℕ) → sure_at rows (is_memory m) (reg_field m) ≡ suc n → IsAt rows m n d
+  unfolding sure_at
+  is_at [] n e = absurd (grind (arith, e))
+  is_at (row ∷ rest) n e = at_step row rest (may_be row (is_memory m) (reg_field m)) (is_sure row)
+      (sure_at rest (is_memory m) (reg_field m)) n refl refl (λ j is. is_at rest j is) e
+
+-- ---- at a mod and reg
+
+below_8 : (P : ℕ → Type 0) → P 0 → P 1 → P 2 → P 3 → P 4 → P 5 → P 6 → P 7 → (k : ℕ) → k < 8 → P k
+below_8 P a b c d e f g h zero low = a
+below_8 P a b c d e f g h (suc zero) low = b
+below_8 P a b c d e f g h (suc (suc zero)) low = c
+below_8 P a b c d e f g h (suc (suc (suc zero))) low = d
+below_8 P a b c d e f g h (suc (suc (suc (suc zero)))) low = e
+below_8 P a b c d e f g h (suc (suc (suc (suc (suc zero))))) low = f
+below_8 P a b c d e f g h (suc (suc (suc (suc (suc (suc zero)))))) low = g
+below_8 P a b c d e f g h (suc (suc (suc (suc (suc (suc (suc zero))))))) low = h
+below_8 P a b c d e f g h (suc (suc (suc (suc (suc (suc (suc (suc k)))))))) low = absurd (omega (arith, low))
+
+in_place : (rows : List TemplateRow) (first : ℕ) (memory : Bool) (d : Cell) (k : ℕ) → k < 8 →
+    get_or (cells_by rows first) (if memory then k else k + 8) d ≡ cell_by rows first memory k
+in_place rows first true d = below_8 (λ k. get_or (cells_by rows first) k d ≡ cell_by rows first true k) refl refl refl refl refl refl refl refl
+in_place rows first false d = below_8 (λ k. get_or (cells_by rows first) (k + 8) d ≡ cell_by rows first false k) refl refl refl refl refl refl refl refl
+
+if_true : {X : Type 0} (test : Bool) (x y z : X) → (if test then x else z) ≡ (if test then y else z) → test ≡ true → x ≡ y
+if_true true x y z h e = h
+if_true false x y z h e = absurd cc
+
+cell_is : (f : Form) (k : ℕ) (memory : Bool) (z : List Cell) (d : Cell) → is_celled f ≡ true → k < 8 →
+    get_or (cells_of f z) (if memory then k else k + 8) d ≡ cell_by (rows_of f) (first_of f) memory k
+cell_is f k memory z d is low =
+    ap (λ cells. get_or cells (if memory then k else k + 8) d) (if_true (is_celled f) (cells_of f z) (cells_by (rows_of f) (first_of f)) [] (cells_are f z) is)
+    ∙ in_place (rows_of f) (first_of f) memory d k low
+
+or_true : (a b : Bool) → (not a || b) ≡ true → a ≡ true → b ≡ true
+or_true a b h e = grind arith
+
+named_by : (names : Names) (own : TableRow) (m : ℕ) → is_named_row names ≡ true → not_by_rm names ≡ true →
+    opcode_of names own m ≡ named (number_at names (reg_field m))
+named_by names own m h e = grind arith
+
+no_bare : (place : Place) (m : ℕ) → has_modrm place ≡ true → place ≡ Place.Bare → is_memory m ≡ false
+no_bare place m h e = absurd (grind (arith, e))
+
+no_number : (of_opcode : Bool) (n k : ℕ) → not of_opcode ≡ true → of_opcode ≡ true → n ≡ k
+no_number of_opcode n k h e = absurd (grind (arith, h, e))
+
+-- the row of the table at the first place and so many further
+in_table : (f : Form) (n : ℕ) (d : TemplateRow) → n < length (rows_of f) → get_or (rows_of f) n d ≡ get_or ROWS.now (first_of f + n) d
+in_table f n d low =
+    let span = span_at f (0, 0) in
+    let taken : length (rows_of f) ≡ (span_of f).1 - first_of f =
+    length-take-le ((span_of f).1 - first_of f) (drop (first_of f) ROWS.now) (omega (arith, length-drop (first_of f) ROWS.now, leb-true _ _ span.inside)) in
+    let short : n < (span_of f).1 - first_of f = subst (λ k. n < k) taken low in
+    get_or-take ((span_of f).1 - first_of f) (drop (first_of f) ROWS.now) n d short ∙ get_or-drop (first_of f) ROWS.now n d
+
+module _ (found : WordRow) (m : ℕ) (group : is_group found.row.form ≡ true) (searched : is_searched found.row.form ≡ false) where
+  abbrev f : Form
+  f = found.row.form
+
+  celled : is_celled f ≡ true
+  celled = rw (group, searched) refl
+
+  from_sure : (k n : ℕ) (d : TemplateRow) → sure_at (rows_of f) (is_memory m) (reg_field m) ≡ k → k ≡ suc n →
+      (is_read_at (get_or ROWS.now (first_of f + n) d).template m ≡ true)
+      × ((strict : Bool) (p : Prefixes) → template_plan (get_or ROWS.now (first_of f + n) d).template found.number
+      (named (number_in (rows_of f) n (reg_field m))) p m ≡ group_plan found.row p m strict)
+  unfolding group_plan
+  from_sure k n d e is =
+      let at = is_at m d (rows_of f) n (e ∙ is) in
+      let row : TemplateRow = get_or (rows_of f) n d in
+      let fits : fits_cell row ≡ true = or_true (is_sure row) (fits_cell row)
+      (All-get_or (λ row. may_fit row ≡ true) (rows_of f) n d at.inside
+      (AllPass-from_list_all may_fit (rows_of f) (or_true (is_celled f) _ (rows_fit f) celled))) at.sure in
+      let parts = and_parts (is_named_row row.names && has_modrm row.at.place) _ fits in
+      let named_parts = and_parts (is_named_row row.names) (has_modrm row.at.place) parts.0 in
+      let free = and_parts (has_free_sizes row.template) (not row.template.of_opcode) parts.1 in
+      subst (λ row. (is_read_at row.template m ≡ true)
+      × ((strict : Bool) (p : Prefixes) → template_plan row.template found.number
+      (named (number_in (rows_of f) n (reg_field m))) p m ≡ plan_of_row (choose (group_rows f) found.row strict p m) found.row p m))
+      (in_table f n d at.inside) (
+        is_read row m at.sure at.placed (no_bare row.at.place m named_parts.1),
+        λ strict p.
+            plan_is row found.row found.number (named (number_in (rows_of f) n (reg_field m))) p m at.sure
+            (named_by row.names found.row m named_parts.0 (by_no_rm row at.sure) ∙ ap named (sym at.number))
+            (no_number row.template.of_opcode found.number (carried f) free.1)
+            (sizes_by row.template m (named (number_in (rows_of f) n (reg_field m))) found.row.opcode p free.0)
+            ∙ ap (λ first. plan_of_row first found.row p m)
+            (sym (chosen found.row strict p m (rows_of f) n d (e ∙ is)) ∙ ap (λ rows. choose rows found.row strict p m) (span_at f (0, 0)).rows),
+      )
+
+  abbrev SureCell : Cell → TemplateRow → Type 0
+  SureCell cell d = (cell.row == 0) ≡ false →
+      (is_read_at (get_or ROWS.now cell.row d).template m ≡ true)
+      × ((strict : Bool) (p : Prefixes) → template_plan (get_or ROWS.now cell.row d).template found.number
+      (named cell.number) p m ≡ group_plan found.row p m strict)
+
+  from_cell : (k : ℕ) (d : TemplateRow) → sure_at (rows_of f) (is_memory m) (reg_field m) ≡ k → SureCell (cell_from (rows_of f) (first_of f) (reg_field m) k) d
+  from_cell zero d e h = absurd (true≢false h)
+  from_cell (suc n) d e h = from_sure (suc n) n d e refl
+
+  plan_same : (strict : Bool) (p : Prefixes) → group_plan found.row p m strict ≡ (record_of strict found.row p).plan m
+  unfolding group_record
+  plan_same strict p = rw group refl
+
+  pub cell_is_sure : (cell : Cell) (d : TemplateRow) → cell ≡ cell_by (rows_of f) (first_of f) (is_memory m) (reg_field m) → (cell.row == 0) ≡ false →
+      (is_read_at (get_or ROWS.now cell.row d).template m ≡ true)
+      × ((strict : Bool) (p : Prefixes) → template_plan (get_or ROWS.now cell.row d).template found.number (named cell.number) p m ≡
+      (record_of strict found.row p).plan m)
+  cell_is_sure cell d e h =
+      let both = subst (λ cell. SureCell cell d) (sym e) (from_cell (sure_at (rows_of f) (is_memory m) (reg_field m)) d refl) h in
+      (both.0, λ strict p. both.1 strict p ∙ plan_same strict p)
+
+-- ---- the places
+
+-- a group has one number
+has_number : (f : Form) → is_group f ≡ true → ((1 + ordinal_of f < length CELLS_AT.now) × (ordinal_of f ≡ first_ordinal_of f))
+unfolding ordinal_of
+has_number (form.Zv_R n) h = absurd cc
+has_number (form.Zv_AX_R n) h = absurd cc
+has_number (form.Zb_Ib_R n) h = absurd cc
+has_number (form.Zv_Ivq_R n) h = absurd cc
+has_number (form.Zv_B n) h = absurd cc
+has_number _ h = (ltb-true _ _ refl, refl)
+
+pub number_below : (found : WordRow) → is_group found.row.form ≡ true → found.form_number < length CELLS_AT.now
+number_below found h = subst (λ n. n < length CELLS_AT.now) (sym found.form_number_is) (has_number found.row.form h).0
+
+plus_one : (n : ℕ) → 1 + n ≡ n + 1
+plus_one n = omega arith
+
+pub cells_at : (found : WordRow) (d : ℕ) → is_group found.row.form ≡ true →
+    get_or CELLS_AT.now found.form_number d ≡ get_or CELLS_AT.now (first_ordinal_of found.row.form + 1) d
+cells_at found d h = ap (λ n. get_or CELLS_AT.now n d)
+    (found.form_number_is ∙ ap (λ n. 1 + n) (has_number found.row.form h).1 ∙ plus_one (first_ordinal_of found.row.form))
+
+cells_inside : list_all (λ n. nat_lt n (length CELLS.now)) CELLS_AT.now ≡ true
+cells_inside = refl
+
+pub cells_below : (n d : ℕ) → n < length CELLS_AT.now → get_or CELLS_AT.now n d < length CELLS.now
+cells_below n d below = ltb-true _ _ (All-get_or (λ n. nat_lt n (length CELLS.now) ≡ true) CELLS_AT.now n d below
+    (AllPass-from_list_all (λ n. nat_lt n (length CELLS.now)) CELLS_AT.now cells_inside))
+
+rows_inside : list_all (λ cells. list_all (λ cell. nat_lt cell.row (length ROWS.now)) cells) CELLS.now ≡ true
+rows_inside = refl
+
+sixteen : list_all (λ cells. length cells == 16) CELLS.now ≡ true
+sixteen = refl
+
+pub row_below : (n k : ℕ) (z : List Cell) (d : Cell) → n < length CELLS.now → k < 16 → (get_or (get_or CELLS.now n z) k d).row < length ROWS.now
+row_below n k z d below low =
+    let cells = get_or CELLS.now n z in
+    let each = All-get_or (λ cells. list_all (λ cell. nat_lt cell.row (length ROWS.now)) cells ≡ true) CELLS.now n z below
+    (AllPass-from_list_all (λ cells. list_all (λ cell. nat_lt cell.row (length ROWS.now)) cells) CELLS.now rows_inside) in
+    let long = All-get_or (λ cells. (length cells == 16) ≡ true) CELLS.now n z below (AllPass-from_list_all (λ cells. length cells == 16) CELLS.now sixteen) in
+    let inside : k < length cells = subst (λ n. k < n) (sym (eqb-true (length cells) 16 long)) low in
+    ltb-true _ _ (All-get_or (λ cell. nat_lt cell.row (length ROWS.now) ≡ true) cells k d inside
+    (AllPass-from_list_all (λ cell. nat_lt cell.row (length ROWS.now)) cells each))
+
+-- the cell at a word's row and a ModRM byte
+pub cell_at : (found : WordRow) (m at : ℕ) (z : List Cell) (c : Cell) (d : ℕ) → is_group found.row.form ≡ true →
+    is_searched found.row.form ≡ false → reg_field m < 8 → at ≡ (if is_memory m then reg_field m else reg_field m + 8) →
+    get_or (get_or CELLS.now (get_or CELLS_AT.now found.form_number d) z) at c ≡ cell_by (rows_of found.row.form) (first_of found.row.form)
+    (is_memory m) (reg_field m)
+cell_at found m at z c d group searched low place =
+    let celled : is_celled found.row.form ≡ true = rw (group, searched) refl in
+    let index : get_or CELLS_AT.now found.form_number d ≡ get_or CELLS_AT.now (first_ordinal_of found.row.form + 1) 0 =
+    cells_at found d group ∙ same_default (first_ordinal_of found.row.form + 1) d
+    (subst (λ n. n < length CELLS_AT.now) (found.form_number_is ∙ ap (λ n. 1 + n) (has_number found.row.form group).1
+    ∙ plus_one (first_ordinal_of found.row.form)) (number_below found group)) in
+    ap (λ n. get_or (get_or CELLS.now n z) at c) index
+    ∙ ap (λ n. get_or (cells_of found.row.form z) n c) place
+    ∙ cell_is found.row.form (reg_field m) (is_memory m) z c celled low
+  where
+    same_default : (n d : ℕ) → n < length CELLS_AT.now → get_or CELLS_AT.now n d ≡ get_or CELLS_AT.now n 0
+    same_default n d low = get_or_default CELLS_AT.now n d 0 low

@@ -1,0 +1,20 @@
+-- How a row goes on after its opcode byte, and a row that is read at once at a ModRM byte.
+use Rattle.std.specs.Prelude.{ℕ, Bool, true, None, ◌≡◌, ⊤}
+use Rattle.x86_groups.specs.Vocabulary.{After, EitherForm, Prefixes}
+use Rattle.x86_groups.specs.declared.rows.SureRow.{SureRow}
+use Rattle.x86_operands.specs.declared.plans.ModrmUse.TheVariants.{Absent}
+use Rattle.x86_forms.specs.declared.words.WordRow.{WordRow}
+use Rattle.x86_operands.specs.Plans.{RowRecord}
+use Rattle.x86_operands.specs.Templates.{is_read_at, template_plan}
+use Rattle.x86_groups.specs.Groups.{record_of}
+
+-- no ModRM, or a ModRM of either form, and no refusal before it
+abbrev pub Continues : After → RowRecord → Type 0
+Continues After.Search r = ⊤
+Continues After.Nothing r = (r.at_opcode ≡ None) × (r.modrm ≡ Absent)
+Continues after r = (r.at_opcode ≡ None) × (r.modrm ≡ EitherForm)
+
+-- Its template says the plan of the word's row at this ModRM byte.
+pub record IsSure (found : WordRow) (m : ℕ) (u : SureRow) : Type 0 where
+  pub fits : is_read_at u.template.now m ≡ true
+  pub plan : (strict : Bool) (p : Prefixes) → template_plan u.template.now found.number u.opcode p m ≡ (record_of strict found.row p).plan m

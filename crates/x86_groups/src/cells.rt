@@ -1,0 +1,65 @@
+//! Groups of which mod and reg alone choose the row: the row and the operation at each.
+
+ghost use Rattle.std.specs.Prelude.{◌≡◌, ◌<◌, ◌+◌, if◌then◌else◌, true, false, IfSome};
+ghost use Rattle.x86_fields.specs.ModRM.{is_memory, reg_field};
+ghost use Rattle.x86_forms.specs.Groups.{is_group};
+ghost use Rattle.x86_operands.specs.Forms.{is_searched};
+ghost use Rattle.x86_groups.specs.Heads.{IsSure};
+
+use crate::rows::SureRow;
+use crate::tables::{CELLS, CELLS_AT, ROWS};
+use x86_fields::ModRM;
+use x86_forms::WordRow;
+use x86_opcodes::Opcode;
+
+/// What mod and reg choose in a group: the row of the table, and the number of its operation. Where they choose none alone,
+/// the row is the first, which no group has.
+#[derive(Clone, Copy, Drop)]
+pub struct Cell {
+    pub row: u8,
+    pub number: u16,
+}
+
+/// A cell: its row and the number of its operation.
+macro_rules! cell {
+    ($row:literal $number:literal) => {
+        Cell {
+            row: $row,
+            number: $number,
+        }
+    };
+}
+
+pub(crate) use cell;
+
+/// Where the cell of a ModRM byte is: those of the memory forms come first, by reg.
+#[inline(always)]
+fn cell_index(modrm: ModRM) -> usize
+    ensures index { result ≡ (if is_memory modrm then reg_field modrm else reg_field modrm + 8) }
+    ensures small { result < 16 }
+    ensures reg { reg_field modrm < 8 }
+{
+    let reg = modrm.reg_field() as usize;
+    if modrm.is_memory() {
+        return reg;
+    }
+    reg + 8
+}
+
+/// The operation and the operands of a group's row at a ModRM byte, where mod and reg alone choose it.
+#[inline(always)]
+pub(crate) fn cell_row(found: &WordRow, modrm: ModRM) -> Option<SureRow<'static>>
+    requires group { is_group found.now.row.form ≡ true }
+    requires celled { is_searched found.now.row.form ≡ false }
+    ensures { IfSome result (IsSure found.now modrm) }
+{
+    let group = CELLS_AT[found.form_number];
+    let cell = &CELLS[group as usize][cell_index(modrm)];
+    if cell.row == 0 {
+        return None;
+    }
+    Some(SureRow {
+        opcode: Opcode::from_number(cell.number as u64).unwrap_or(Opcode::Invalid),
+        template: &ROWS[cell.row as usize].template,
+    })
+}

@@ -1,0 +1,287 @@
+-- A row that is read at once wherever its form, mod and reg are: where it may be, it is the first that is there.
+use Rattle.std.proofs.Common.{◌≡◌, ℕ, zero, suc, nat_le, ◌==◌, Bool, true, false, not, ◌&&◌, ◌||◌, if◌then◌else◌, List, [], ◌∷◌, map}
+use Rattle.std.proofs.Common.{slice_index_or, refl, sym, ◌∙◌, arith}
+use Rattle.std.proofs.lemmas.Bool.{and_parts}
+use Rattle.x86_operands.specs.Vocabulary.{Prefixes, TableRow, Template, Size, OperandEncoding, Order, Width, Verdict, Accepts, PrefixChange}
+use Rattle.x86_operands.specs.Vocabulary.{Keeps, BadOpcode, AtModRM, reg_field, is_memory}
+use Rattle.x86_operands.specs.RowVocabulary.{FormRow, TemplateRow, Rm, Names, ByReg, ByRm, Place, Memory, Register, Reg, When}
+use Rattle.x86_operands.specs.declared.rows.Reg.TheVariants as regs
+use Rattle.x86_operands.specs.declared.rows.Rm.TheVariants as rms
+use Rattle.x86_operands.specs.declared.rows.When.TheVariants as when
+use Rattle.x86_operands.specs.declared.sizing.Size.TheVariants as size
+use Rattle.x86_operands.specs.Words.{otherwise}
+use Rattle.x86_operands.specs.Columns.{choose, is_there, is_placed, is_reg, is_rm, is_prefixed, is_named, name_at, opcode_of, plan_of_row}
+use Rattle.x86_forms.specs.Words.{carried}
+use Rattle.x86_operands.specs.Encodings.{all_settled, settled, size_bytes}
+use Rattle.x86_operands.specs.Templates.{encodings_in, fixed_encoding, form_row, is_last, is_simple, is_read_at, is_register_place}
+use Rattle.x86_operands.specs.Templates.{is_sound, is_sound_row, is_stack, template_operands, reg_encoding, reg_part, rm_encoding, size_at}
+use Rattle.x86_operands.specs.Templates.{somewhere, template_plan}
+use Rattle.x86_operands.proofs.OrderLemmas.{Named, no_named, named}
+use Rattle.x86_operands.proofs.ReadLemmas.{size_is}
+use Rattle.x86_operands.proofs.TemplateLemmas.{sound_parts}
+
+-- ---- where a row may be, by mod and reg
+
+abbrev pub at_place : Place → Bool → Bool
+at_place Memory memory = memory
+at_place Register memory = not memory
+at_place place memory = true
+
+abbrev pub at_reg : Reg → ℕ → Bool
+at_reg regs.Any k = true
+at_reg (regs.Is n) k = k == n
+at_reg (regs.From first last) k = nat_le first k && nat_le k last
+
+-- whether it has a name there, for some rm
+abbrev pub at_names : Names → ℕ → Bool
+at_names (ByReg names) k = not (name_at names k == 0)
+at_names names k = true
+
+abbrev pub may_be : TemplateRow → Bool → ℕ → Bool
+may_be row memory k = at_place row.at.place memory && (at_reg row.at.reg k && at_names row.names k)
+
+-- ---- what makes it sure
+
+abbrev is_always : When → Bool
+is_always when.Always = true
+is_always w = false
+
+abbrev any_rm : Rm → Bool
+any_rm rms.Any = true
+any_rm r = false
+
+abbrev pub not_by_rm : Names → Bool
+not_by_rm (ByRm names) = false
+not_by_rm names = true
+
+abbrev accepts : Verdict → Bool
+accepts Accepts = true
+accepts v = false
+
+abbrev keeps : PrefixChange → Bool
+keeps Keeps = true
+keeps c = false
+
+abbrev is_first : TemplateRow → Bool
+is_first row = is_always row.when && (any_rm row.at.rm && not_by_rm row.names)
+
+-- where there is no operand of rm, there is no memory form
+abbrev is_bare : Place → Bool
+is_bare Memory = false
+is_bare Place.Either = false
+is_bare place = true
+
+abbrev is_at_once : TemplateRow → Bool
+is_at_once row =
+    (accepts row.verdict && keeps row.change)
+    && ((is_simple row.template && is_last row.template.extra)
+    && (is_sound_row row && (somewhere row.template.order.rm || is_bare row.at.place)))
+
+abbrev pub is_sure : TemplateRow → Bool
+is_sure row = is_first row && is_at_once row
+
+pub by_no_rm : (row : TemplateRow) → is_sure row ≡ true → not_by_rm row.names ≡ true
+by_no_rm row sure = (and_parts (any_rm row.at.rm) (not_by_rm row.names)
+    (and_parts (is_always row.when) _ (and_parts (is_first row) (is_at_once row) sure).0).1).1
+
+placed_at : (place : Place) (m : ℕ) → at_place place (is_memory m) ≡ true → is_placed place m ≡ true
+placed_at place m h = grind arith
+
+pub placed_by : (row : TemplateRow) (m : ℕ) → may_be row (is_memory m) (reg_field m) ≡ true → is_placed row.at.place m ≡ true
+placed_by row m h = placed_at row.at.place m (and_parts (at_place row.at.place (is_memory m)) _ h).0
+
+-- ---- a sure row is chosen
+
+module _ (own : TableRow) (strict : Bool) (p : Prefixes) (m : ℕ) where
+  place_same : (place : Place) → is_placed place m ≡ at_place place (is_memory m)
+  place_same place = grind arith
+
+  reg_same : (r : Reg) → is_reg r m ≡ at_reg r (reg_field m)
+  reg_same r = grind arith
+
+  unnamed : (names : Names) → at_names names (reg_field m) ≡ false → is_named names m ≡ false
+  unnamed names h = grind arith
+
+  named_surely : (names : Names) → not_by_rm names ≡ true → is_named names m ≡ at_names names (reg_field m)
+  named_surely names h = grind arith
+
+  any_prefixes : (w : When) → is_always w ≡ true → is_prefixed w own p ≡ true
+  any_prefixes w h = grind arith
+
+  at_any_rm : (r : Rm) → any_rm r ≡ true → is_rm r strict m ≡ true
+  at_any_rm r h = grind arith
+
+  not_there : (a b c d e n : Bool) → (n ≡ false → e ≡ false) → (a && (b && n)) ≡ false → (a && (b && (c && (d && e)))) ≡ false
+  not_there true true c d e false h k = rw (h refl) (both c d)
+    where
+      both : (c d : Bool) → (c && (d && false)) ≡ false
+      both c d = grind arith
+  not_there a b c d e n h k = grind arith
+
+  absent : (row : TemplateRow) → may_be row (is_memory m) (reg_field m) ≡ false → is_there (form_row row) own strict p m ≡ false
+  absent row h =
+      rw (place_same row.at.place, reg_same row.at.reg)
+      (not_there (at_place row.at.place (is_memory m)) (at_reg row.at.reg (reg_field m)) (is_rm row.at.rm strict m)
+      (is_prefixed row.when own p) (is_named row.names m) (at_names row.names (reg_field m)) (unnamed row.names) h)
+
+  pub present : (row : TemplateRow) → may_be row (is_memory m) (reg_field m) ≡ true → is_sure row ≡ true → is_there (form_row row) own strict p m ≡ true
+  present row h sure =
+      let parts = and_parts (is_always row.when) _ (and_parts (is_first row) _ sure).0 in
+      let rest = and_parts (any_rm row.at.rm) (not_by_rm row.names) parts.1 in
+      rw (place_same row.at.place, reg_same row.at.reg, at_any_rm row.at.rm rest.0, any_prefixes row.when parts.0, named_surely row.names rest.1) h
+
+  -- the first that may be there, counted from 1; 0 where none may be, or it isn't sure
+  abbrev Holds : List TemplateRow → ℕ → TemplateRow → Type 0
+  Holds rows n d = choose (map form_row rows) own strict p m ≡ form_row (slice_index_or rows n d)
+
+abbrev pub after : ℕ → ℕ
+after zero = zero
+after (suc k) = suc (suc k)
+
+unfoldable pub sure_at : List TemplateRow → Bool → ℕ → ℕ
+sure_at [] memory k = 0
+sure_at (row ∷ rest) memory k = if may_be row memory k then (if is_sure row then 1 else 0) else after (sure_at rest memory k)
+
+module _ (own : TableRow) (strict : Bool) (p : Prefixes) (m : ℕ) where
+  step : (row : TemplateRow) (rest : List TemplateRow) (may sure : Bool) (k n : ℕ) (d : TemplateRow) →
+      may_be row (is_memory m) (reg_field m) ≡ may → is_sure row ≡ sure →
+      ((n : ℕ) → k ≡ suc n → Holds own strict p m rest n d) →
+      (if may then (if sure then 1 else 0) else after k) ≡ suc n → Holds own strict p m (row ∷ rest) n d
+  step row rest true true k zero d e s h is = rw (present own strict p m row e s) refl
+  step row rest false sure (suc k) (suc n) d e s h is = rw (absent own strict p m row e) (h n (grind (arith, is)))
+  step row rest may sure k n d e s h is = absurd (grind (arith, is))
+
+  pub chosen : (rows : List TemplateRow) (n : ℕ) (d : TemplateRow) → sure_at rows (is_memory m) (reg_field m) ≡ suc n → Holds own strict p m rows n d
+  unfolding sure_at
+  chosen [] n d e = absurd (grind (arith, e))
+  chosen (row ∷ rest) n d e = step row rest (may_be row (is_memory m) (reg_field m)) (is_sure row)
+      (sure_at rest (is_memory m) (reg_field m)) n d refl refl (λ n is. chosen rest n d is) e
+
+-- ---- it is read at once
+
+sure_place : (place : Place) (m : ℕ) → is_placed place m ≡ true → is_register_place place ≡ true → is_memory m ≡ false
+sure_place place m h e = grind arith
+
+bare_place : (place : Place) (m : ℕ) → is_placed place m ≡ true → (place ≡ Place.Bare → is_memory m ≡ false) → is_bare place ≡ true → is_memory m ≡ false
+bare_place Place.Bare m h n e = n refl
+bare_place place m h n e = grind arith
+
+or_not : (a b c : Bool) → (a || b) ≡ true → (b ≡ true → c ≡ false) → (a || not c) ≡ true
+or_not true b c h k = refl
+or_not false b c h k = rw (k h) refl
+
+pub is_read : (row : TemplateRow) (m : ℕ) → is_sure row ≡ true → is_placed row.at.place m ≡ true →
+    (row.at.place ≡ Place.Bare → is_memory m ≡ false) → is_read_at row.template m ≡ true
+is_read row m sure placed bare =
+    let parts = and_parts (accepts row.verdict && keeps row.change) _ (and_parts (is_first row) (is_at_once row) sure).1 in
+    let plain = and_parts (is_simple row.template && is_last row.template.extra) _ parts.1 in
+    let sound = and_parts (is_sound_row row) _ plain.1 in
+    let stack = and_parts (is_sound row.template) _ sound.0 in
+    rw (
+      stack.0,
+      (and_parts (is_simple row.template) _ plain.0).0,
+      or_not (not (is_stack row.template.rm)) (is_register_place row.at.place) (is_memory m) stack.1 (sure_place row.at.place m placed),
+      or_not (somewhere row.template.order.rm) (is_bare row.at.place) (is_memory m) sound.1 (bare_place row.at.place m placed bare),
+    ) refl
+
+-- ---- its plan is that of its template
+
+settled_in : {o : Order} → Named o → (n : ℕ) (p : Prefixes) (a b c d : OperandEncoding) →
+    all_settled (encodings_in o a b c d) n p ≡ encodings_in o (settled a n p) (settled b n p) (settled c n p) (settled d n p)
+settled_in no_named n p a b c d = refl
+settled_in h n p a b c d = refl
+
+last_by : (c : OperandEncoding) (n k : ℕ) (p : Prefixes) → is_last c ≡ true → settled c n p ≡ settled c k p
+last_by c n k p h = grind arith
+
+rm_by : (w : Width) (n k : ℕ) (p : Prefixes) → settled (rm_encoding w) n p ≡ settled (rm_encoding w) k p
+rm_by w n k p = grind arith
+
+field_by : (w : Width) (n k : ℕ) (p : Prefixes) → settled (reg_encoding w) n p ≡ settled (reg_encoding w) k p
+field_by w n k p = grind arith
+
+fixed_by : (of_opcode : Bool) (w : Width) (n k : ℕ) (p : Prefixes) → (of_opcode ≡ true → n ≡ k) →
+    settled (fixed_encoding of_opcode w 0) n p ≡ settled (fixed_encoding of_opcode w 0) k p
+fixed_by true w n k p same = rw (same refl) refl
+fixed_by false w n k p same = refl
+
+reg_by : (rm of_opcode : Bool) (w : Width) (n k : ℕ) (p : Prefixes) → (of_opcode ≡ true → n ≡ k) →
+    settled (if rm then reg_encoding w else fixed_encoding of_opcode w 0) n p ≡ settled (if rm then reg_encoding w else fixed_encoding of_opcode w 0) k p
+reg_by true of_opcode w n k p same = field_by w n k p
+reg_by false of_opcode w n k p same = fixed_by of_opcode w n k p same
+
+operands_by : (t : Template) (n k : ℕ) (p : Prefixes) → is_sound t ≡ true → is_last t.last ≡ true → is_last t.extra ≡ true →
+    (t.of_opcode ≡ true → n ≡ k) → all_settled (template_operands t) n p ≡ all_settled (template_operands t) k p
+operands_by t n k p sound last extra same =
+    let h = named t.order (sound_parts t sound).order in
+    settled_in h n p (reg_part t 0) (rm_encoding t.rm) t.last t.extra
+    ∙ rw (reg_by (somewhere t.order.rm) t.of_opcode t.reg n k p same, rm_by t.rm n k p, last_by t.last n k p last, last_by t.extra n k p extra) refl
+    ∙ sym (settled_in h k p (reg_part t 0) (rm_encoding t.rm) t.last t.extra)
+
+-- a size that goes by no operation
+abbrev pub is_free : Size → Bool
+is_free size.Call = false
+is_free size.Bare = false
+is_free size.Return = false
+is_free size.Duplicate = false
+is_free size.Stream = false
+is_free size.Scalar = false
+is_free size.Extract = false
+is_free size.Insert = false
+is_free size.Unpack = false
+is_free size.Extend = false
+is_free s = true
+
+abbrev pub has_free_sizes : Template → Bool
+has_free_sizes t = is_free t.in_memory && is_free t.in_register
+
+free_bytes : (s : Size) (o k : ℕ) (p : Prefixes) → is_free s ≡ true → size_bytes s o p ≡ size_bytes s k p
+free_bytes s o k p h = grind arith
+
+free_at : (memory : Bool) (a b : Size) (o k : ℕ) (p : Prefixes) → is_free a ≡ true → is_free b ≡ true →
+    size_bytes (if memory then a else b) o p ≡ size_bytes (if memory then a else b) k p
+free_at true a b o k p h e = free_bytes a o k p h
+free_at false a b o k p h e = free_bytes b o k p e
+
+pub sizes_by : (t : Template) (m o k : ℕ) (p : Prefixes) → has_free_sizes t ≡ true → size_bytes (size_at t m) o p ≡ size_bytes (size_at t m) k p
+sizes_by t m o k p h =
+    let parts = and_parts (is_free t.in_memory) (is_free t.in_register) h in
+    free_at (is_memory m) t.in_memory t.in_register o k p parts.0 parts.1
+
+accepted : (v : Verdict) → accepts v ≡ true → v ≡ Accepts
+accepted Accepts h = refl
+accepted v h = cc
+
+kept : (c : PrefixChange) → keeps c ≡ true → c ≡ Keeps
+kept Keeps h = refl
+kept c h = cc
+
+pub plan_is : (row : TemplateRow) (own : TableRow) (n o : ℕ) (p : Prefixes) (m : ℕ) → is_sure row ≡ true → opcode_of row.names own m ≡ o →
+    (row.template.of_opcode ≡ true → n ≡ carried own.form) →
+    size_bytes (size_at row.template m) o p ≡ size_bytes (size_at row.template m) own.opcode p →
+    template_plan row.template n o p m ≡ plan_of_row (form_row row) own p m
+plan_is row own n o p m sure opcode number size =
+    let parts = and_parts (accepts row.verdict && keeps row.change) _ (and_parts (is_first row) (is_at_once row) sure).1 in
+    let ends = and_parts (accepts row.verdict) (keeps row.change) parts.0 in
+    let plain = and_parts (is_simple row.template && is_last row.template.extra) _ parts.1 in
+    let lasts = and_parts (is_simple row.template) (is_last row.template.extra) plain.0 in
+    let sound = and_parts (is_sound row.template) _ (and_parts (is_sound_row row) _ plain.1).0 in
+    rw (
+      accepted row.verdict ends.0,
+      kept row.change ends.1,
+      opcode,
+      operands_by row.template n (carried own.form) p sound.0 (and_parts (is_last row.template.last) _ lasts.0).0 lasts.1 number,
+      size,
+      size_is (is_memory m) row.template.in_memory row.template.in_register own.opcode p,
+    ) refl
+
+-- ---- the first row
+
+abbrev pub first_of : List FormRow → FormRow
+first_of [] = otherwise BadOpcode AtModRM
+first_of (row ∷ rest) = row
+
+pub first_chosen : (rows : List FormRow) (own : TableRow) (strict : Bool) (p : Prefixes) (m : ℕ) →
+    is_there (first_of rows) own strict p m ≡ true → choose rows own strict p m ≡ first_of rows
+first_chosen [] own strict p m h = refl
+first_chosen (row ∷ rest) own strict p m h = rw h refl

@@ -1,0 +1,191 @@
+-- What the templates of the table mean: a row of the table is a row of the definitions, and its operands are read as that
+-- row's are.
+use Rattle.std.specs.Prelude.{ℕ, Bool, true, false, ◌==◌, if◌then◌else◌, not, ◌&&◌, ◌||◌}
+use Rattle.x86_fields.specs.MemorySizes.{undecided_size}
+use Rattle.x86_operands.specs.Vocabulary.{Prefixes, Width, OperandEncoding, OperandEncodings, Zero, One, Two, Three, Four, Plan, Position}
+use Rattle.x86_operands.specs.Vocabulary.{First, Second, Third, Fourth, Nowhere, Order, Size, Template, is_memory}
+use Rattle.x86_operands.specs.RowVocabulary.{FormRow, Place, Register, RowSize, Bytes, Of, TemplateRow}
+use Rattle.x86_fields.specs.declared.sizes.Width.TheVariants as width
+use Rattle.x86_operands.specs.declared.plans.OperandEncoding.TheVariants as encoding
+use Rattle.x86_operands.specs.declared.plans.RegisterSlot.TheVariants as slot
+use Rattle.x86_operands.specs.declared.sizing.Size.TheVariants as size
+use Rattle.x86_operands.specs.Plans.{reads}
+use Rattle.x86_operands.specs.Encodings.{all_settled, size_bytes}
+
+-- ---- the operands of a template
+
+-- the operand of reg beside one of rm, and the operand of rm
+abbrev pub reg_encoding : Width → OperandEncoding
+reg_encoding width.Mm = encoding.Gmm
+reg_encoding w = encoding.G w
+
+abbrev pub rm_encoding : Width → OperandEncoding
+rm_encoding width.Mm = encoding.Emm
+rm_encoding width.St = encoding.StRm
+rm_encoding w = encoding.E w
+
+-- without an operand of rm, the register of the opcode byte, whose number is n, or register 0
+abbrev pub fixed_encoding : Bool → Width → ℕ → OperandEncoding
+fixed_encoding true w n = encoding.Z slot.Reg w n
+fixed_encoding false w n = encoding.A w
+
+abbrev pub somewhere : Position → Bool
+somewhere Nowhere = false
+somewhere at = true
+
+abbrev pub reg_part : Template → ℕ → OperandEncoding
+reg_part t n = if somewhere t.order.rm then reg_encoding t.reg else fixed_encoding t.of_opcode t.reg n
+
+abbrev pub index_of_position : Position → ℕ
+index_of_position First = 0
+index_of_position Second = 1
+index_of_position Third = 2
+index_of_position Fourth = 3
+index_of_position Nowhere = 4
+
+-- the operand at an index
+abbrev pub encoding_at : Order → ℕ → OperandEncoding → OperandEncoding → OperandEncoding → OperandEncoding → OperandEncoding
+encoding_at o k reg rm last extra =
+    if index_of_position o.reg == k then reg
+    else (if index_of_position o.rm == k then rm
+    else (if index_of_position o.last == k then last else extra))
+
+abbrev pub encodings_in : Order → OperandEncoding → OperandEncoding → OperandEncoding → OperandEncoding → OperandEncodings
+encodings_in o reg rm last extra =
+    if o.count == 0 then Zero
+    else (if o.count == 1 then One (encoding_at o 0 reg rm last extra)
+    else (if o.count == 2 then Two (encoding_at o 0 reg rm last extra) (encoding_at o 1 reg rm last extra)
+    else (if o.count == 3 then Three (encoding_at o 0 reg rm last extra) (encoding_at o 1 reg rm last extra) (encoding_at o 2 reg rm last extra)
+    else Four (encoding_at o 0 reg rm last extra) (encoding_at o 1 reg rm last extra) (encoding_at o 2 reg rm last extra) (encoding_at o 3 reg rm last extra))))
+
+abbrev pub template_operands : Template → OperandEncodings
+template_operands t = encodings_in t.order (reg_part t 0) (rm_encoding t.rm) t.last t.extra
+
+-- ---- the row that a row of the table is
+
+abbrev pub row_size : Size → RowSize
+row_size size.Zero = Bytes 0
+row_size size.One = Bytes 1
+row_size size.Two = Bytes 2
+row_size size.Four = Bytes 4
+row_size size.Eight = Bytes 8
+row_size size.Ten = Bytes 10
+row_size size.Sixteen = Bytes 16
+row_size size.FortyEight = Bytes 48
+row_size size.Undecided = Bytes undecided_size
+row_size size.SixtyFour = Bytes 64
+row_size s = Of s
+
+abbrev pub form_row : TemplateRow → FormRow
+form_row row = record {
+  at = row.at;
+  when = row.when;
+  names = row.names;
+  operands = template_operands row.template;
+  in_memory = row_size row.template.in_memory;
+  in_register = row_size row.template.in_register;
+  change = row.change;
+  verdict = row.verdict;
+}
+
+-- ---- the plan of a template that is read at once
+
+-- the memory size at a ModRM byte
+abbrev pub size_at : Template → ℕ → Size
+size_at t m = if is_memory m then t.in_memory else t.in_register
+
+-- the plan of a row with this template, whose opcode byte carries n
+abbrev pub template_plan : Template → ℕ → ℕ → Prefixes → ℕ → Plan
+template_plan t n o p m = reads o (all_settled (template_operands t) n p) (size_bytes (size_at t m) o p)
+
+-- ---- templates that are sound
+
+abbrev pub is_order_of : Position → Position → Position → Position → ℕ → Bool
+is_order_of Nowhere Nowhere Nowhere Nowhere n = n == 0
+is_order_of Nowhere Nowhere First Nowhere n = n == 1
+is_order_of Nowhere Nowhere First Second n = n == 2
+is_order_of First Nowhere Nowhere Nowhere n = n == 1
+is_order_of First Nowhere Second Nowhere n = n == 2
+is_order_of First Nowhere Second Third n = n == 3
+is_order_of Second Nowhere First Nowhere n = n == 2
+is_order_of Nowhere First Nowhere Nowhere n = n == 1
+is_order_of Nowhere First Second Nowhere n = n == 2
+is_order_of Nowhere Second First Nowhere n = n == 2
+is_order_of Nowhere First Second Third n = n == 3
+is_order_of Second First Nowhere Nowhere n = n == 2
+is_order_of First Second Nowhere Nowhere n = n == 2
+is_order_of Second First Third Nowhere n = n == 3
+is_order_of First Second Third Nowhere n = n == 3
+is_order_of First Second Third Fourth n = n == 4
+is_order_of a b c d n = false
+
+abbrev pub is_order : Order → Bool
+is_order o = is_order_of o.reg o.rm o.last o.extra o.count
+
+-- the letters of reg and rm, which a template has as such
+abbrev pub is_field : OperandEncoding → Bool
+is_field (encoding.G w) = true
+is_field encoding.Gmm = true
+is_field (encoding.E w) = true
+is_field encoding.Emm = true
+is_field encoding.StRm = true
+is_field s = false
+
+-- an operand for which no byte is read, and which is neither a number nor a register that the name implies
+abbrev pub is_known : OperandEncoding → Bool
+is_known encoding.Cr = true
+is_known encoding.Dr = true
+is_known encoding.Sr = true
+is_known encoding.RdInReg = true
+is_known (encoding.Z at w n) = true
+is_known (encoding.A w) = true
+is_known (encoding.At at n c) = true
+is_known encoding.Source = true
+is_known encoding.Destination = true
+is_known encoding.Jv = true
+is_known encoding.Offset = true
+is_known s = false
+
+abbrev pub is_sound : Template → Bool
+is_sound t = is_order t.order && (not (is_field t.last) && not (is_field t.extra))
+
+-- a register of the stack has no memory form
+abbrev pub is_stack : Width → Bool
+is_stack width.St = true
+is_stack w = false
+
+abbrev pub fits_form : Template → ℕ → Bool
+fits_form t m = not (is_stack t.rm) || not (is_memory m)
+
+-- what the last operand can be where all is read at once: an immediate, or what neither a byte nor ModRM names
+abbrev pub is_last : OperandEncoding → Bool
+is_last encoding.I8 = true
+is_last encoding.I16 = true
+is_last encoding.I32 = true
+is_last encoding.I64 = true
+is_last encoding.I64Whole = true
+is_last encoding.U8 = true
+is_last encoding.U16 = true
+is_last encoding.Iv = true
+is_last encoding.Ivq = true
+is_last encoding.Ip = true
+is_last (encoding.ConstantI8 z) = true
+is_last (encoding.ConstantU8 n) = true
+is_last (encoding.Implied at n c) = true
+is_last s = false
+
+-- there is nothing but what is read at once
+abbrev pub is_simple : Template → Bool
+is_simple t = is_last t.last && not (somewhere t.order.extra)
+
+-- a memory form has an operand of rm
+abbrev pub is_read_at : Template → ℕ → Bool
+is_read_at t m = is_sound t && (is_simple t && (fits_form t m && (somewhere t.order.rm || not (is_memory m))))
+
+-- a row whose template is sound, and has a register of the stack in the register form alone
+abbrev pub is_register_place : Place → Bool
+is_register_place Register = true
+is_register_place place = false
+
+abbrev pub is_sound_row : TemplateRow → Bool
+is_sound_row row = is_sound row.template && (not (is_stack row.template.rm) || is_register_place row.at.place)

@@ -1,0 +1,76 @@
+//! Operand templates: which part of an encoding each operand of a row is.
+
+ghost use Rattle.std.specs.Prelude.{◌≡◌, ℕ};
+ghost use Rattle.x86_fields.specs.Sizes.{size_prefixes};
+ghost use Rattle.x86_operands.specs.Vocabulary.{Prefixes, is_memory};
+ghost use Rattle.x86_operands.specs.Encodings.{settled, size_bytes};
+ghost use Rattle.x86_operands.specs.Templates.{size_at};
+
+use crate::order::Order;
+use crate::plans::OperandEncoding;
+use crate::sizing::Size;
+use x86_fields::{Prefixes, SizePrefixes, Width};
+use x86_opcodes::Opcode;
+
+/// The operands of a row: their order, what each of them is, and the memory size.
+#[derive(Clone, Copy, Drop)]
+pub struct Template {
+    /// The order of reg, rm and the last operands.
+    pub order: Order,
+    /// The width of the register of the field reg, of the opcode byte, or of the accumulator.
+    pub reg: Width,
+    /// Where there is no operand of rm: whether that register is the one of the opcode byte, and not the accumulator.
+    pub of_opcode: bool,
+    /// The width of the register of the field rm.
+    pub rm: Width,
+    /// The operand that is none of these: an immediate, or what neither a byte nor ModRM names.
+    pub last: OperandEncoding,
+    /// Another one, whose bytes come after those of the last one.
+    pub extra: OperandEncoding,
+    /// The memory size, in the memory form.
+    pub in_memory: Size,
+    /// The same in the register form, and without ModRM.
+    pub in_register: Size,
+}
+
+impl OperandEncoding {
+    /// The operand under these prefixes. `num` is the number of the opcode byte, which `Z` has; an immediate whose size the
+    /// prefixes choose becomes the one of that size.
+    #[inline(always)]
+    pub fn settled(self, num: u8, prefixes: &Prefixes) -> OperandEncoding
+        ensures { result ≡ settled self num prefixes.now }
+    {
+        let of_word = prefixes.operand_size() && !prefixes.has_w();
+        match self {
+            OperandEncoding::Z(slot, width, _) => OperandEncoding::Z(slot, width, num),
+            OperandEncoding::Iv | OperandEncoding::Ivq | OperandEncoding::Ip if of_word =>
+                OperandEncoding::I16,
+            OperandEncoding::Iv if prefixes.has_w() => OperandEncoding::I64,
+            OperandEncoding::Ivq if prefixes.has_w() => OperandEncoding::I64Whole,
+            OperandEncoding::Jv if of_word => OperandEncoding::I32From16,
+            OperandEncoding::Iv
+            | OperandEncoding::Ivq
+            | OperandEncoding::Ip
+            | OperandEncoding::Jv => OperandEncoding::I32,
+            OperandEncoding::Offset if prefixes.address_size() => OperandEncoding::Address32,
+            OperandEncoding::Offset => OperandEncoding::Address64,
+            encoding => encoding,
+        }
+    }
+}
+
+impl Template {
+    /// The memory size in bytes, in the memory form or in the register form; `opcode` is the one of the opcode map.
+    #[inline(always)]
+    pub fn mem_size(&self, in_memory: bool, opcode: Opcode, sizes: SizePrefixes) -> u8
+        ensures { (modrm : ℕ) (p : Prefixes) → in_memory ≡ is_memory modrm
+            → sizes ≡ size_prefixes p → result ≡ size_bytes (size_at self.now modrm) opcode p }
+    {
+        let size = if in_memory {
+            self.in_memory
+        } else {
+            self.in_register
+        };
+        size.bytes(opcode, sizes)
+    }
+}
