@@ -1,5 +1,6 @@
 -- The form of raw fields has the value that their bits encode.
-use Rattle.std.proofs.Common.{◌≡◌, ℕ, ◌+◌, ◌*◌, ◌%◌, ◌^◌, ◌<◌, ◌==◌, ◌&&◌, not, Bool, true, false, if◌then◌else◌, Option, Some, None, List, slice_index, refl, ap, ◌∙◌, arith}
+use Rattle.std.proofs.Common.{◌≡◌, ℕ, ◌+◌, ◌*◌, ◌%◌, ◌^◌, ◌<◌, ◌==◌, ◌&&◌, not, Bool, true, false, if◌then◌else◌, Option, Some, None, List}
+use Rattle.std.proofs.Common.{slice_index, refl, ap, ◌∙◌, arith}
 use Rattle.std.specs.Int.{w32, w64, cast_unsigned}
 use Rattle.x86_regs.specs.declared.RegSpec.{RegSpec}
 use Rattle.x86_fields.specs.declared.raw.Raw.{Raw}
@@ -18,7 +19,8 @@ module _ (raw : Raw) (regs : List ℕ) (next : ℕ) where
   pointer : part_value (Some (next_pointer raw)) 1 regs next ≡ next
   pointer = grind arith
 
-  register : (bit : Bool) (field times : ℕ) → field < 8 → part_value (Some (address_register raw bit field)) times regs next ≡ times * register_at regs bit field
+  register : (bit : Bool) (field times : ℕ) → field < 8 →
+      part_value (Some (address_register raw bit field)) times regs next ≡ times * register_at regs bit field
   register true field times small = grind arith
   register false field times small = grind arith
 
@@ -38,6 +40,7 @@ module _ (raw : Raw) (regs : List ℕ) (next : ℕ) where
   pub by_the_bits : value_at (raw_form raw) regs next ≡ encoded_address raw regs next
   by_the_bits =
       value_by_parts raw.address_size (base_of raw) (index_of raw) (scale_by raw.sib) raw.disp regs next
-      ∙ ap (λ b. (b + part_value (index_of raw) (scale_by raw.sib) regs next + constant_by raw.address_size raw.disp) % modulus_by raw.address_size) (base raw.sib)
+      ∙ ap (λ b. (b + part_value (index_of raw) (scale_by raw.sib) regs next + constant_by raw.address_size raw.disp) % modulus_by
+      raw.address_size) (base raw.sib)
       ∙ ap (λ i. (base_at raw raw.sib regs next + i + constant_by raw.address_size raw.disp) % modulus_by raw.address_size) (index raw.sib)
       ∙ by_size raw.address_size (base_at raw raw.sib regs next + index_at raw raw.sib regs) refl

@@ -3,6 +3,8 @@ pub mod Text
 pub mod Addresses
 pub mod DecoderLaws
 pub mod Listings
+pub mod Sentences
 pub mod Headline
+pub mod Functions
 pub mod Worked
 pub mod Commands

@@ -3,9 +3,13 @@
 
 ghost use Rattle.std.specs.Prelude.{◌≡◌, ◌≢◌, ◌↔◌, ℕ, ◌+◌, ◌≤◌, Bool, IsTrue, true, false, List, Option, length};
 ghost use Rattle.x86_decode.specs.declared.instructions.Instruction.{Instruction};
+ghost use Rattle.x86_decode.specs.Grammar.{Decides, IsSentence};
+ghost use Rattle.x86_decode.specs.Head.{Rows};
 ghost use Rattle.x86_decode.specs.Instruction.{length_of};
 ghost use Rattle.x86_fields.specs.Linear.{raw_form, value_at};
+ghost use Rattle.x86_fields.specs.declared.errors.DecodeError.{DecodeError};
 ghost use Rattle.x86_fields.specs.declared.raw.Raw.{Raw};
+ghost use Rattle.x86_forms.specs.Rows.{printed_row};
 ghost use Rattle.x86_forms.specs.Words.{rows_of, packed};
 ghost use Rattle.x86_layout.specs.Parts.OfBytes.{parts_of};
 ghost use Rattle.x86_layout.specs.Sweeps.Cuts.{cuts_from};
@@ -21,7 +25,9 @@ ghost use Rattle.x86_cli.specs.Commands.Complete.{CompletesTexts};
 ghost use Rattle.x86_cli.specs.Commands.Follows.{IsExact, HasReadFault, Completes};
 ghost use Rattle.x86_cli.specs.Listings.Certain.{AwaitsMore, BeforeReads, KnowsAll, SentAllCertain};
 ghost use Rattle.x86_cli.specs.Listings.Grammar.{AreCuts, IsListing};
+ghost use Rattle.x86_cli.specs.Functions.{functions};
 ghost use Rattle.x86_cli.specs.Headline.{Headline};
+ghost use Rattle.x86_cli.specs.Sentences.{Encodes, HasError};
 ghost use Rattle.x86_cli.specs.declared.listings.fields.FieldLines.{FieldLines};
 ghost use Rattle.x86_cli.specs.declared.listings.line.Plain.{Plain};
 ghost use Rattle.x86_cli.specs.declared.listings.listing.UpToRefusal.{UpToRefusal};
@@ -63,7 +69,7 @@ use x86_text::LINE_ROOM;
 /// The headline, under either choice: what is proved of every byte string, of every run over a source and a sink, and of
 /// what the program leaves of a reader and a writer whose bytes are known.
 pub fn headline<S: Source, K: Sink, R: Read, W: Write>()
-    ensures bytes { (strict : Bool) → Headline strict }
+    ensures bytes { (strict : Bool) → Headline printed_row strict (functions strict) }
     ensures runs { (c : Command) (status : Status) (a b : Joined S K)
         → Runs S.gives K.takes (Request.Reads c) status a b
         → Says status c (streams_of S.left S.faults K.written K.faults a)
@@ -82,23 +88,29 @@ pub fn headline<S: Source, K: Sink, R: Read, W: Write>()
 
 /// The headline, as far as it is of bytes.
 fn headline_of_bytes()
-    ensures { (strict : Bool) → Headline strict }
+    ensures { (strict : Bool) → Headline printed_row strict (functions strict) }
 {
     laws::answer_is();
     laws::one_answer();
-    laws::answers_of_more();
+    laws::lengths();
     laws::decided_bytes_are_refused();
     addresses_are_by_the_bits();
     x86_forms::laws::printed_words_are_the_printed_rows();
     x86_layout::laws::memory_operands_have_their_address();
     x86_layout::laws::parts_are_those_of_the_bytes();
     x86_layout::laws::permitted_fields_are_the_parts_of_sentences();
-    x86_layout::laws::permitted_fields_are_split_again();
-    x86_layout::laws::accepted_encodings_are_emitted_again();
     x86_layout::laws::shortest_relatives_have_the_least_length();
     x86_layout::laws::relatives_are_the_same_instruction();
-    by_grammar();
 }
+
+/// The sentences of the headline, over any rows, are those of the grammar of x86_decode, and the bytes that have an error are
+/// those that decide it there.
+pub fn sentences()
+    ensures sentences { (rows : Rows) (strict : Bool) (s : List ℕ) (i : Instruction)
+        → IsSentence rows strict s i ↔ Encodes rows strict true s i }
+    ensures errors { (rows : Rows) (strict : Bool) (q : List ℕ) (e : DecodeError)
+        → Decides rows strict q e ↔ HasError rows strict q e }
+{}
 
 /// The value of the form of raw fields is the address that their bits encode.
 #[tactic(auto, using(crate::proofs::AddressLemmas::by_the_bits))]
@@ -184,7 +196,8 @@ pub fn known_is_all<E, O: Input<E> + Output<E>>()
 pub fn decoder_laws()
     ensures { (strict : Bool) → DecoderLaws strict }
 {
-    headline_of_bytes();
+    laws::answer_is();
+    laws::answers_of_more();
     laws::lengths();
     laws::fifteen_are_enough();
     laws::empty_input();

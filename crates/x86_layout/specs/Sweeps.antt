@@ -3,5 +3,6 @@ pub mod Cuts
 pub mod Lengths
 pub mod Sweep
 pub mod Branches
+pub mod Flows
 pub mod Marks
 pub mod Pieces

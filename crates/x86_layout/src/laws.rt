@@ -6,9 +6,12 @@ ghost use Rattle.std.specs.List.{sum_by, All};
 ghost use Rattle.x86_decode.specs.Addresses.{names_modrm, encodings_within, raw_within};
 ghost use Rattle.x86_decode.specs.Answer.{answer_of};
 ghost use Rattle.x86_layout.specs.Sweeps.Pieces.{CutsGoOn, CutsOfMore, CutsJoin};
+ghost use Rattle.x86_layout.specs.declared.sweeps.control.Flow.{Flow};
 ghost use Rattle.x86_layout.specs.declared.sweeps.cuts.Cut.{Cut};
 ghost use Rattle.x86_layout.specs.declared.sweeps.sweep.Sweep.{Sweep};
 ghost use Rattle.x86_layout.specs.Sweeps.Cuts.{cut_length, cut_at, cuts_from, cuts_of};
+ghost use Rattle.x86_layout.specs.Sweeps.Branches.{branch_target};
+ghost use Rattle.x86_layout.specs.Sweeps.Flows.{flow_of, target_in};
 ghost use Rattle.x86_layout.specs.Sweeps.Sweep.{cuts_left};
 ghost use Rattle.x86_layout.specs.Sweeps.Lengths.{IsWithin};
 ghost use Rattle.x86_operands.specs.declared.reader.Reading.{Reading};
@@ -32,7 +35,7 @@ ghost use Rattle.x86_fields.specs.ModRM.{reg_field};
 ghost use Rattle.x86_fields.specs.Linear.{raw_form, value_at, IsSameAddress, IsRegFile};
 ghost use Rattle.x86_fields.specs.Parts.{HasFieldLengths};
 
-use crate::{EmitError, Sweep};
+use crate::{EmitError, Flow, Sweep};
 use x86_decode::laws;
 
 /// Where bytes are left, a cut begins at the first, and the next cut after it; where none is left there is no cut.
@@ -207,7 +210,14 @@ pub fn relatives_are_the_same_instruction()
     x86_fields::laws::forms_are_their_values();
 }
 
-/// Errors of `emit` are equal exactly where they are the same.
+/// Errors of `emit` are equal exactly where they are the same, and so are flows.
 pub fn values_are_equal()
-    ensures { (a b : EmitError) → IsTrue (⟦<EmitError as PartialEq>⟧.eq a b) ↔ (a ≡ b) }
+    ensures errors { (a b : EmitError) → IsTrue (⟦<EmitError as PartialEq>⟧.eq a b) ↔ (a ≡ b) }
+    ensures flows { (a b : Flow) → IsTrue (⟦<Flow as PartialEq>⟧.eq a b) ↔ (a ≡ b) }
+{}
+
+/// Where `branch_target` answers a target, `flow` has that target.
+pub fn flows_have_the_branch_targets()
+    ensures { (i : Instruction) (next t : ℕ) → branch_target i next ≡ Some t →
+        target_in (flow_of i next) ≡ Some t }
 {}

@@ -22,5 +22,6 @@ module _ (n by : ℕ) (large_before : 100 ≤ n) (no_carry : by < 100 - n % 100)
       let beginning : List ℕ = decimal (n / 100) in
       let e = decimal_pair n large_before (omega arith) in
       let count : length (decimal n) - 2 ≡ length beginning = (let l = length_pair n large_before (omega arith) in omega arith) in
-      let kept : take (length (decimal n) - 2) (decimal n) ≡ beginning = ap (λ k. take k (decimal n)) count ∙ ap (take (length beginning)) e ∙ take-append_seam beginning (pair (n % 100)) in
+      let kept : take (length (decimal n) - 2) (decimal n) ≡ beginning = ap (λ k. take k (decimal n)) count ∙ ap (take (length beginning)) e
+      ∙ take-append_seam beginning (pair (n % 100)) in
       ap (λ xs. xs ++ pair ((n + by) % 100)) (kept ∙ ap decimal same_hundreds) ∙ sym (decimal_pair (n + by) large fits)

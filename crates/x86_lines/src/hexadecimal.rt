@@ -1,73 +1,83 @@
 //! Numbers in hexadecimal, and bytes as pairs of digits. Each call writes at a place in cells, and returns the place
 //! after what it wrote, as those of `cells`.
 
-ghost use Rattle.std.specs.Prelude.{◌≡◌, ℕ, List, ◌+◌, ◌*◌, ◌/◌, ◌<◌, ◌≤◌, ◌++◌, length, take};
-ghost use Rattle.x86_lines.specs.Hexadecimal.{hexadecimal, prefixed, signed_hexadecimal, spaced_byte, spaced_bytes};
+ghost use Rattle.std.specs.Prelude.{◌≡◌, ℕ, List, ◌+◌, ◌*◌, ◌/◌, ◌<◌, ◌≤◌, ◌^◌, ◌++◌, length, max, take};
+ghost use Rattle.x86_lines.specs.Hexadecimal.{hexadecimal, pair, eight_digits, prefixed, signed_hexadecimal, spaced_byte, spaced_bytes};
 
 use crate::cells::{put, put_first};
 use crate::digits::hex_of;
 
-/// Writes a number that has one digit.
+/// Writes the two digits of a byte.
 #[inline(always)]
-fn put_digit(cells: &mut [u8], at: usize, n: u64) -> usize
-    requires few { n < 16 }
-    requires room { at + 1 ≤ length cells.old }
-    ensures text { take result cells.new ≡ take at cells.old ++ hexadecimal n }
-    ensures place { result ≡ at + length (hexadecimal n) }
-{
-    put(cells, at, hex_of(n as u8)[1])
-}
-
-/// Writes a number that has two digits.
-#[inline(always)]
-#[tactic(auto, using(crate::proofs::HexadecimalLemmas::two_digits))]
-fn put_pair(cells: &mut [u8], at: usize, n: u64) -> usize
-    requires many { 16 ≤ n }
-    requires few { n < 256 }
-    requires room { at + 2 ≤ length cells.old }
-    ensures text { take result cells.new ≡ take at cells.old ++ hexadecimal n }
-    ensures place { result ≡ at + length (hexadecimal n) }
-{
-    put_first(cells, at, hex_of(n as u8), 2)
-}
-
-/// Writes the last two digits of a number, after its other digits.
-#[inline(always)]
-fn put_last_pair(cells: &mut [u8], at: usize, n: u64) -> usize
-    requires many { 256 ≤ n }
-    requires room { at + 2 ≤ length cells.old }
-    ensures text { (before : List ℕ) → take at cells.old ≡ before ++ hexadecimal (n / 256) →
-        take result cells.new ≡ before ++ hexadecimal n }
+fn put_pair(cells: &mut [u8], at: usize, byte: u8) -> usize
+    requires { at + 2 ≤ length cells.old }
+    ensures text { take result cells.new ≡ take at cells.old ++ pair byte }
     ensures place { result ≡ at + 2 }
 {
-    put_first(cells, at, hex_of((n % 256) as u8), 2)
+    put_first(cells, at, hex_of(byte), 2)
 }
 
-/// Writes a number: the bytes before the last, and then that.
-fn put_digits(cells: &mut [u8], at: usize, n: u64) -> usize
-    requires { at + length (hexadecimal n) ≤ length cells.old }
-    ensures text { take result cells.new ≡ take at cells.old ++ hexadecimal n }
-    ensures place { result ≡ at + length (hexadecimal n) }
+/// Writes the two digits of each of four bytes, the highest first.
+#[inline(always)]
+fn put_eight(cells: &mut [u8], at: usize, n: u32) -> usize
+    requires { at + 8 ≤ length cells.old }
+    ensures text { take result cells.new ≡ take at cells.old ++ eight_digits n }
+    ensures place { result ≡ at + 8 }
 {
-    if n < 16 {
-        put_digit(cells, at, n)
-    } else if n < 256 {
-        put_pair(cells, at, n)
-    } else {
-        let at = put_digits(cells, at, n / 256);
-        put_last_pair(cells, at, n)
-    }
+    let at = put_pair(cells, at, (n / 16_777_216) as u8);
+    let at = put_pair(cells, at, (n / 65_536 % 256) as u8);
+    let at = put_pair(cells, at, (n / 256 % 256) as u8);
+    put_pair(cells, at, (n % 256) as u8)
+}
+
+/// How many digits follow the first of a number of at most eight.
+#[inline(always)]
+fn digits_after_first(n: u32) -> u32
+    ensures few { result ≤ 7 }
+    ensures most { n < 2 ^ (4 * result + 4) }
+    ensures least { 2 ^ (4 * result) ≤ max n 1 }
+{
+    n.max(1).ilog2() / 4
+}
+
+/// Writes a number of at most eight digits. It is moved so that its first digit is the first of eight: what is then
+/// written after its own digits are zeros.
+#[inline(always)]
+fn put_at_most_eight(cells: &mut [u8], at: usize, n: u32) -> usize
+    requires { at + 8 ≤ length cells.old }
+    ensures text { take result cells.new ≡ take at cells.old ++ hexadecimal n }
+    ensures short { result ≤ at + 8 }
+{
+    let last = digits_after_first(n);
+    put_eight(cells, at, n << (28 - 4 * last));
+    at + last as usize + 1
+}
+
+/// Writes a number of more than eight digits.
+#[cold]
+#[inline(never)]
+fn put_more_than_eight(cells: &mut [u8], at: usize, n: u64) -> usize
+    requires many { 2 ^ 32 ≤ n }
+    requires room { at + 16 ≤ length cells.old }
+    ensures text { take result cells.new ≡ take at cells.old ++ hexadecimal n }
+    ensures short { result ≤ at + 16 }
+{
+    let at = put_at_most_eight(cells, at, (n / 4_294_967_296) as u32);
+    put_eight(cells, at, (n % 4_294_967_296) as u32)
 }
 
 /// Writes a number in lower case and without leading zeros, as `1f` of 31. It has at most sixteen digits.
-#[inline(always)]
-#[tactic(auto, using(crate::proofs::HexadecimalLemmas::at_most_sixteen))]
+#[inline(never)]
 pub fn put_hexadecimal(cells: &mut [u8], at: usize, n: u64) -> usize
     requires { at + 16 ≤ length cells.old }
     ensures text { take result cells.new ≡ take at cells.old ++ hexadecimal n }
     ensures short { result ≤ at + 16 }
 {
-    put_digits(cells, at, n)
+    if n < 4_294_967_296 {
+        put_at_most_eight(cells, at, n as u32)
+    } else {
+        put_more_than_eight(cells, at, n)
+    }
 }
 
 /// Writes a number after `0x`.

@@ -1,5 +1,6 @@
 -- What the status of a listing says of its text.
-use Rattle.std.proofs.Common.{◌≡◌, ◌≢◌, ℕ, suc, zero, false, ◌+◌, Bool, List, [], ◌∷◌, ◌++◌, length, Option, Some, None, Ok, Err, refl, arith, ap, ◌∙◌, sym, length-append}
+use Rattle.std.proofs.Common.{◌≡◌, ◌≢◌, ℕ, suc, zero, false, ◌+◌, Bool, List, [], ◌∷◌, ◌++◌, length, Option, Some, None, Ok, Err, refl}
+use Rattle.std.proofs.Common.{arith, ap, ◌∙◌, sym, length-append}
 use Rattle.std.proofs.Math.Seq.{drop-append_seam}
 use Rattle.std.specs.List.{concat}
 use Rattle.x86_streams.specs.Text.{text_at}
@@ -15,7 +16,8 @@ use Rattle.x86_cli.proofs.ListingLemmas.Listing.{listing-whole}
 -- a listing that isn't refused ends as its text
 
 module _ (strict : Bool) (text : ℕ → Instruction → List ℕ → List ℕ) (e : Ending) where
-  pub listing_end : (n k : ℕ) (xs : List ℕ) → (listing_from strict text n k xs e).status ≢ outcome.Refused → (listing_from strict text n k xs e).status ≡ (at_end e).status
+  pub listing_end : (n k : ℕ) (xs : List ℕ) → (listing_from strict text n k xs e).status ≢ outcome.Refused →
+      (listing_from strict text n k xs e).status ≡ (at_end e).status
   unfolding listing_from decoded_of
   listing_end n k [] = λ _. refl
   listing_end n zero (x ∷ xs) = let h = λ (k : ℕ). listing_end (n + 1) k xs in grind arith
@@ -50,9 +52,16 @@ module _ (strict : Bool) (laws : DecoderLaws strict) (text : ℕ → Instruction
   sentences_done n [] each = refl
   sentences_done n (s ∷ ss) (is, each) =
       let some = laws.lengths s is.instruction is.answer in
-      let first = decoded-stays strict laws s (concat ss) Ending.Clean (λ e. let f : Ok is.instruction ≡ Err ExhaustedInput = sym is.answer ∙ e in cc) ∙ ap decoded_before_end is.answer in
+      let first = decoded-stays strict laws s (concat ss) Ending.Clean
+      (λ e. let f : Ok is.instruction ≡ Err ExhaustedInput = sym is.answer ∙ e in cc) ∙ ap decoded_before_end is.answer in
       let after = sentences_done (n + length s) ss each in
-      grind (arith, is.whole, listing-whole strict text n (s ++ concat ss) Ending.Clean is.instruction first, drop-append_seam s (concat ss), length-append s (concat ss))
+      grind (
+        arith,
+        is.whole,
+        listing-whole strict text n (s ++ concat ss) Ending.Clean is.instruction first,
+        drop-append_seam s (concat ss),
+        length-append s (concat ss),
+      )
 
 -- the listing of a clean text whose image a command goes through
 pub text_done : ((strict : Bool) → DecoderLaws strict) → CompletesTexts

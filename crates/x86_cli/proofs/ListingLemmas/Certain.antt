@@ -1,10 +1,13 @@
 -- What is known of a listing before a read is all that is certain.
-use Rattle.std.proofs.Common.{◌≡◌, ◌≢◌, ◌⊎◌, inl, inr, ℕ, zero, suc, ◌+◌, ◌-◌, ◌/◌, ◌%◌, ◌≤◌, Bool, List, [], ◌∷◌, ◌++◌, length, take, map, Result, Ok, Err, refl, get_or, sym, ◌∙◌, arith, ap, append-nil, append_assoc, length-append}
+use Rattle.std.proofs.Common.{◌≡◌, ◌≢◌, ◌⊎◌, inl, inr, ℕ, zero, suc, ◌+◌, ◌-◌, ◌/◌, ◌%◌, ◌≤◌, Bool, List, [], ◌∷◌, ◌++◌, length, take, map}
+use Rattle.std.proofs.Common.{Result, Ok, Err, refl, get_or, sym, ◌∙◌, arith, ap, append-nil, append_assoc, length-append}
 use Rattle.std.proofs.lemmas.List.{take-append-le, append_cancel_left, append_cancel_right}
 use Rattle.std.proofs.lemmas.Bool.{cases_lt}
 use Rattle.std.proofs.lemmas.Fmt.{decimal_digit, decimal_step}
 use Rattle.std.specs.Prelude.{codes}
-use Rattle.x86_cli.proofs.ListingLemmas.Vocabulary.{Instruction, DecodeError, Ending, Status, End, Failed, Text, answer_of, decimal, line, DecoderLaws, with_lines, at_end, text_of, Call, Read, Write, Flush, ByRule, Command, Task, false, ⊤, known_for, listing_for, max_of, received, task_of}
+use Rattle.x86_cli.proofs.ListingLemmas.Vocabulary.{Instruction, DecodeError, Ending, Status, End, Failed, Text, answer_of, decimal, line}
+use Rattle.x86_cli.proofs.ListingLemmas.Vocabulary.{DecoderLaws, with_lines, at_end, text_of, Call, Read, Write, Flush, ByRule, Command}
+use Rattle.x86_cli.proofs.ListingLemmas.Vocabulary.{Task, false, ⊤, known_for, listing_for, max_of, received, task_of}
 use Rattle.x86_cli.specs.declared.commands.request.Request.{Request}
 use Rattle.x86_fields.specs.declared.errors.DecodeError.TheVariants.{ExhaustedInput}
 use Rattle.x86_layout.specs.declared.sweeps.cuts.Cut.{Cut}
@@ -64,7 +67,8 @@ module _ (strict : Bool) (laws : DecoderLaws strict) (text : ℕ → Instruction
     ends : (e : Ending) → e ≢ Ending.Fault → (tail : Lines) × ((listing_from strict text n k w e).lines ≡ lines ++ tail) × ((t : Lines) → tail ≡ fault ∷ t → ⊥)
 
   whole_here : (n x : ℕ) (zs : List ℕ) (e : Ending) (i : Instruction) → answer_of strict (x ∷ zs) ≡ Ok i →
-      listing_from strict text n 0 (x ∷ zs) e ≡ with_lines (line (text n i (take i.length (x ∷ zs))) ∷ []) (listing_from strict text (n + 1) (i.length - 1) zs e)
+      listing_from strict text n 0 (x ∷ zs) e ≡ with_lines (line (text n i (take i.length (x ∷ zs))) ∷ [])
+      (listing_from strict text (n + 1) (i.length - 1) zs e)
   unfolding listing_from decoded_of
   whole_here n x zs e i h = rw h refl
 
@@ -115,11 +119,13 @@ module _ (strict : Bool) (laws : DecoderLaws strict) (text : ℕ → Instruction
       let max : ℕ = 67108864 in
       let t = text_of max bytes Failed in
       let status : (listing_from strict text 0 0 t.image t.ending).status ≡ Status.ReadFault = ap (λ l. l.status) is in
-      let faults : t.ending ≡ Ending.Fault = at_fault t.ending (sym (listing_end strict text t.ending 0 0 t.image (λ f. let g : Status.ReadFault ≡ Status.Refused = sym status ∙ f in cc)) ∙ status) in
+      let faults : t.ending ≡ Ending.Fault = at_fault t.ending
+      (sym (listing_end strict text t.ending 0 0 t.image (λ f. let g : Status.ReadFault ≡ Status.Refused = sym status ∙ f in cc)) ∙ status) in
       let is_known : listing_from strict text 0 0 t.image Ending.Fault ≡ with_lines lines (at_end Ending.Fault) = rw faults at is in
       let k = known 0 0 t.image (ap (λ l. l.status) is_known) in
       let same : lines ≡ k.lines = append_cancel_right lines k.lines (fault ∷ []) (ap (λ l. l.lines) (sym is_known ∙ k.failed)) in (
-        (λ xs stop. let more = text_more max bytes faults xs stop in let b = k.begins more.0 (text_of max (bytes ++ xs) stop).ending in (b.0, (rw (more.1) b.1) ∙ ap (λ ls. ls ++ b.0) (sym same))),
+        (λ xs stop. let more = text_more max bytes faults xs stop in let b = k.begins more.0 (text_of max (bytes ++ xs) stop).ending in
+            (b.0, (rw (more.1) b.1) ∙ ap (λ ls. ls ++ b.0) (sym same))),
         λ others certain.
             let f = rw append-nil at (certain [] Failed) in
             let g = rw append-nil at (certain [] End) in
@@ -134,7 +140,13 @@ module _ (strict : Bool) (laws : DecoderLaws strict) (text : ℕ → Instruction
 first_digit : (n : ℕ) → n ≤ 15 → (d : ℕ) × (ds : List ℕ) × (decimal n ≡ d ∷ ds) × (d ≤ 57)
 first_digit n few = elim (cases_lt n 10) [
   | inl less ↦ (48 + n, [], decimal_digit n less, omega (arith, less))
-  | inr more ↦ (48 + n / 10, (48 + n % 10) ∷ [], decimal_step n more (omega (arith, few)) ∙ ap (λ ds. ds ++ (48 + n % 10) ∷ []) (decimal_digit (n / 10) (omega (arith, few))), omega (arith, few))
+  | inr more ↦ (
+    48 + n / 10,
+    (48 + n % 10) ∷ [],
+    decimal_step n more (omega (arith, few))
+        ∙ ap (λ ds. ds ++ (48 + n % 10) ∷ []) (decimal_digit (n / 10) (omega (arith, few))),
+    omega (arith, few),
+  )
 ]
 
 other_first : (x y : ℕ) (xs ys : List ℕ) → (x ≡ y → ⊥) → x ∷ xs ≡ y ∷ ys → ⊥
@@ -159,7 +171,8 @@ module _ (n : ℕ) where
       let text = codes " " ++ instruction_text i in
       let same : decimal n ++ (codes " " ++ (decimal i.length ++ text)) ≡ decimal n ++ (codes " error: " ++ description_of ExhaustedInput) =
       simp (append_assoc) at (append_cancel_right (line_of n i) (refusal_of n ExhaustedInput) (codes "\n") h) in
-      let after = append_cancel_left (decimal n ++ codes " ") (decimal i.length ++ text) (codes "error: " ++ description_of ExhaustedInput) (simp (append_assoc) same) in
+      let after = append_cancel_left (decimal n ++ codes " ") (decimal i.length ++ text) (codes "error: " ++ description_of ExhaustedInput)
+      (simp (append_assoc) same) in
       other_first digit.0 101 _ _ (λ e. omega (arith, e, digit.3)) (rw digit.2 at after)
 
   cut_differs : (a : Result Instruction DecodeError) → a ≢ Err ExhaustedInput → ((i : Instruction) → a ≡ Ok i → i.length ≤ 15) →
@@ -177,11 +190,13 @@ module _ (strict : Bool) (laws : DecoderLaws strict) (short : (xs : List ℕ) (i
     begins : (ys : List ℕ) → (more : Lines) × (lines_of (cuts_skipping strict k n (w ++ ys)) ≡ decided (cuts_skipping strict k n w) ++ more)
     next : (lines_of (cuts_skipping strict k n w) ≡ decided (cuts_skipping strict k n w))
         ⊎ ((f : List ℕ) × (rest : Lines) × (lines_of (cuts_skipping strict k n w) ≡ decided (cuts_skipping strict k n w) ++ f ∷ rest)
-        × ((ys : List ℕ) → 15 ≤ length ys → (g : List ℕ) × (tail : Lines) × (lines_of (cuts_skipping strict k n (w ++ ys)) ≡ decided (cuts_skipping strict k n w) ++ g ∷ tail) × (g ≡ f → ⊥)))
+        × ((ys : List ℕ) → 15 ≤ length ys → (g : List ℕ) × (tail : Lines)
+        × (lines_of (cuts_skipping strict k n (w ++ ys)) ≡ decided (cuts_skipping strict k n w) ++ g ∷ tail) × (g ≡ f → ⊥)))
 
   -- the first cut, by its answer
   abbrev First : (n x : ℕ) (xs : List ℕ) → Result Instruction DecodeError → Type 0
-  First n x xs a = cuts_skipping strict 0 n (x ∷ xs) ≡ record { place = n; length = cut_length a; answer = a } ∷ cuts_skipping strict (cut_length a - 1) (n + 1) xs
+  First n x xs a = cuts_skipping strict 0 n (x ∷ xs) ≡ record { place = n; length = cut_length a; answer = a } ∷
+      cuts_skipping strict (cut_length a - 1) (n + 1) xs
 
   first_cut : (n x : ℕ) (xs : List ℕ) (a : Result Instruction DecodeError) → answer_of strict (x ∷ xs) ≡ a → First n x xs a
   unfolding cuts_skipping
@@ -191,14 +206,22 @@ module _ (strict : Bool) (laws : DecoderLaws strict) (short : (xs : List ℕ) (i
       First n x xs a → ((ys : List ℕ) → First n x (xs ++ ys) a) → KnownCuts (n + 1) (cut_length a - 1) xs → KnownCuts n 0 (x ∷ xs)
   one_more n x xs a sure first stays h =
       let l = line (cut_text n a) in
-      let d : decided (cuts_skipping strict 0 n (x ∷ xs)) ≡ l ∷ decided (cuts_skipping strict (cut_length a - 1) (n + 1) xs) = ap decided first ∙ before_sure strict a _ sure in
-      let after : (ys more others : Lines) → ys ≡ decided (cuts_skipping strict (cut_length a - 1) (n + 1) xs) ++ more → others ≡ l ∷ ys → others ≡ decided (cuts_skipping strict 0 n (x ∷ xs)) ++ more =
+      let d : decided (cuts_skipping strict 0 n (x ∷ xs)) ≡ l ∷ decided (cuts_skipping strict (cut_length a - 1) (n + 1) xs) =
+      ap decided first ∙ before_sure strict a _ sure in
+      let after : (ys more others : Lines) → ys ≡ decided (cuts_skipping strict (cut_length a - 1) (n + 1) xs) ++ more → others ≡ l ∷ ys →
+      others ≡ decided (cuts_skipping strict 0 n (x ∷ xs)) ++ more =
       λ ys more others e f. f ∙ ap (λ ls. l ∷ ls) e ∙ ap (λ ls. ls ++ more) (sym d) in
       record {
         begins = λ ys. let b = h.begins ys in (b.0, after _ b.0 _ b.1 (ap lines_of (stays ys)));
         next = elim h.next [
           | inl e ↦ inl (ap lines_of first ∙ ap (λ ls. l ∷ ls) e ∙ sym d)
-          | inr q ↦ inr (q.0, q.1, after _ (q.0 ∷ q.1) _ q.2 (ap lines_of first), λ ys long. let g = q.3 ys long in (g.0, g.1, after _ (g.0 ∷ g.1) _ g.2 (ap lines_of (stays ys)), g.3))
+          | inr q ↦ inr (
+            q.0,
+            q.1,
+            after _ (q.0 ∷ q.1) _ q.2 (ap lines_of first),
+            λ ys long. let g = q.3 ys long in
+                (g.0, g.1, after _ (g.0 ∷ g.1) _ g.2 (ap lines_of (stays ys)), g.3),
+          )
         ];
       }
 
@@ -223,7 +246,8 @@ module _ (strict : Bool) (laws : DecoderLaws strict) (short : (xs : List ℕ) (i
       }
   known_cut n x xs a h after =
       let sure : a ≢ Err ExhaustedInput = λ f. cc in
-      one_more n x xs a sure (first_cut n x xs a h) (λ ys. first_cut n x (xs ++ ys) a (laws.stay (x ∷ xs) ys (λ f. sure (sym h ∙ f)) ∙ h)) (after (cut_length a - 1))
+      one_more n x xs a sure (first_cut n x xs a h) (λ ys. first_cut n x (xs ++ ys) a (laws.stay (x ∷ xs) ys (λ f. sure (sym h ∙ f)) ∙ h))
+      (after (cut_length a - 1))
 
   known_cuts : (n k : ℕ) (w : List ℕ) → KnownCuts n k w
   unfolding cuts_skipping
@@ -231,7 +255,8 @@ module _ (strict : Bool) (laws : DecoderLaws strict) (short : (xs : List ℕ) (i
   known_cuts n zero (x ∷ xs) = known_cut n x xs (answer_of strict (x ∷ xs)) refl (λ k. known_cuts (n + 1) k xs)
   known_cuts n (suc k) (x ∷ xs) = let h = known_cuts (n + 1) k xs in record { begins = h.begins; next = h.next }
 
-  pub sweep_knows : (bytes : List ℕ) → length bytes + 30 ≤ 67108864 → KnowsAll (record { max = 67108864; known = known_sweep_at strict 0; lists = sweep_at strict 0 }) bytes
+  pub sweep_knows : (bytes : List ℕ) → length bytes + 30 ≤ 67108864 →
+      KnowsAll (record { max = 67108864; known = known_sweep_at strict 0; lists = sweep_at strict 0 }) bytes
   sweep_knows bytes room lines is =
       let max : ℕ = 67108864 in
       let t = text_of max bytes Failed in
@@ -255,7 +280,8 @@ module _ (strict : Bool) (laws : DecoderLaws strict) (short : (xs : List ℕ) (i
             let z = certain zeros Failed in
             let more = (at_end (text_of max (bytes ++ zeros) Failed).ending).lines in
             let h : (more : Lines) × (d ≡ others ++ more) = elim k.next [
-              | inl e ↦ common d others fault [] last f.0 g.0 (ap (λ ls. ls ++ fault ∷ []) (sym e) ∙ f_is) (ap (λ ls. ls ++ last) (sym e) ∙ g_is) (no_fault (text_of max bytes End).ending (text_ends max bytes faults))
+              | inl e ↦ common d others fault [] last f.0 g.0 (ap (λ ls. ls ++ fault ∷ []) (sym e) ∙ f_is)
+                  (ap (λ ls. ls ++ last) (sym e) ∙ g_is) (no_fault (text_of max bytes End).ending (text_ends max bytes faults))
               | inr q ↦
                   let w = q.3 gains.0 gains.2 in
                   common d others q.0 (q.1 ++ fault ∷ []) (w.0 ∷ (w.1 ++ more)) f.0 z.0
@@ -273,9 +299,11 @@ fault_known : (c : Command) (t : Text) (lines : Lines) → known_for c t ≡ wit
 fault_known (Command.List strict) t lines e = ap (λ l. l.status) e
 fault_known c t lines e = ap (λ l. l.status) e
 
-undecided : (c : Command) (bytes : List ℕ) (lines : Lines) → known_for c (text_of (max_of c) bytes Failed) ≡ with_lines lines (at_end Ending.Fault) → Varies (task_of (Request.Reads c)) bytes
+undecided : (c : Command) (bytes : List ℕ) (lines : Lines) →
+    known_for c (text_of (max_of c) bytes Failed) ≡ with_lines lines (at_end Ending.Fault) → Varies (task_of (Request.Reads c)) bytes
 undecided c bytes lines e l all =
-    let same : listing_for c (text_of (max_of c) bytes Failed) ≡ listing_for c (text_of (max_of c) bytes End) = rw append-nil at (all [] Failed ∙ sym (all [] End)) in
+    let same : listing_for c (text_of (max_of c) bytes Failed) ≡ listing_for c (text_of (max_of c) bytes End) =
+    rw append-nil at (all [] Failed ∙ sym (all [] End)) in
     command_read c (max_of c) bytes (sym (ap (λ l. l.status) same) ∙ fault_known c (text_of (max_of c) bytes Failed) lines e)
 
 pub awaits_more : (c : Command) (cs : List Call) → ByRule (known_for c) (text_of (max_of c)) cs → BeforeReads (AwaitsMore (task_of (Request.Reads c))) cs
@@ -285,7 +313,8 @@ awaits_more c (Write bytes answer ∷ cs) rule = awaits_more c cs rule.0
 awaits_more c (Flush answer ∷ cs) rule = awaits_more c cs rule.0
 
 -- What is known of a text was sent before each read, and is all that is certain of the bytes of which this is so.
-pub sent_all : (task : Task) (Of : List ℕ → Type 0) → ((bytes : List ℕ) → Of bytes → KnowsAll task bytes) → (cs : List Call) → ByRule task.known (text_of task.max) cs →
+pub sent_all : (task : Task) (Of : List ℕ → Type 0) → ((bytes : List ℕ) → Of bytes → KnowsAll task bytes) → (cs : List Call) →
+    ByRule task.known (text_of task.max) cs →
     BeforeReads (λ cs. Of (received cs) → SentAllCertain task cs) cs
 sent_all task Of knows [] rule = tt
 sent_all task Of knows (Read buffer answer ∷ cs) rule = (sent_all task Of knows cs rule.0, λ of. (rule.4.0, knows (received cs) of rule.4.0 rule.4.1, rule.4.2))
@@ -293,7 +322,8 @@ sent_all task Of knows (Write bytes answer ∷ cs) rule = sent_all task Of knows
 sent_all task Of knows (Flush answer ∷ cs) rule = sent_all task Of knows cs rule.0
 
 -- of a listing up to a refusal
-pub sent_up_to_refusal : (laws : (strict : Bool) → DecoderLaws strict) (c : Command) → goes_past_refusals c ≡ false → (cs : List Call) → ByRule (known_for c) (text_of (max_of c)) cs →
+pub sent_up_to_refusal : (laws : (strict : Bool) → DecoderLaws strict) (c : Command) → goes_past_refusals c ≡ false → (cs : List Call) →
+    ByRule (known_for c) (text_of (max_of c)) cs →
     BeforeReads (SentAllCertain (task_of (Request.Reads c))) cs
 sent_up_to_refusal laws c up cs rule = each cs (sent_all (task_of (Request.Reads c)) (λ bytes. ⊤) (knows c up) cs rule)
   where
@@ -304,7 +334,8 @@ sent_up_to_refusal laws c up cs rule = each cs (sent_all (task_of (Request.Reads
     knows Command.Sweep up bytes all = cc
     knows Command.Targets up bytes all = cc
 
-    each : (cs : List Call) → BeforeReads (λ cs. ⊤ → SentAllCertain (task_of (Request.Reads c)) cs) cs → BeforeReads (SentAllCertain (task_of (Request.Reads c))) cs
+    each : (cs : List Call) → BeforeReads (λ cs. ⊤ → SentAllCertain (task_of (Request.Reads c)) cs) cs →
+        BeforeReads (SentAllCertain (task_of (Request.Reads c))) cs
     each [] h = tt
     each (Read buffer answer ∷ cs) h = (each cs h.0, h.1 tt)
     each (Write bytes answer ∷ cs) h = each cs h

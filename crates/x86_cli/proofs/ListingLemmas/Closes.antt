@@ -7,9 +7,11 @@ use Rattle.x86_streams.specs.Outside.Chain.{NoRead}
 use Rattle.x86_cli.specs.Listings.Closes.{Closes}
 use Rattle.x86_cli.proofs.ListingLemmas.Live.{follow_of, not_taken_first}
 
-module _ {W : Type 0} (writes : W → List ℕ → Result ℕ Error → W → Type 0) (flushes : W → Result ⊤ Error → W → Type 0) (gathers : Bool) (held : List ℕ) (outcome : Finished) where
+module _ {W : Type 0} (writes : W → List ℕ → Result ℕ Error → W → Type 0) (flushes : W → Result ⊤ Error → W → Type 0) (gathers : Bool)
+    (held : List ℕ) (outcome : Finished) where
   -- all was sent
-  pub closes_flush : (held' : List ℕ) (w w' : W) → outcome.status ≢ Status.WriteFault → outcome.gone ≡ false → (gathers ≡ false → held ≡ []) → SendsAll writes flushes (Ok tt) held held' w w' →
+  pub closes_flush : (held' : List ℕ) (w w' : W) → outcome.status ≢ Status.WriteFault → outcome.gone ≡ false →
+      (gathers ≡ false → held ≡ []) → SendsAll writes flushes (Ok tt) held held' w w' →
       Closes writes flushes gathers held (record { lines = []; status = outcome.status }) outcome w w'
   closes_flush held' w w' ne gone empty q = record {
     calls = q.0.calls;
@@ -25,7 +27,8 @@ module _ {W : Type 0} (writes : W → List ℕ → Result ℕ Error → W → Ty
   }
 
   -- a line was put before
-  pub closes_put : (x held' : List ℕ) (status : Status) (u v w : W) → Puts writes flushes gathers (Ok tt) x held held' u v → Closes writes flushes gathers held' (record { lines = []; status = status }) outcome v w →
+  pub closes_put : (x held' : List ℕ) (status : Status) (u v w : W) → Puts writes flushes gathers (Ok tt) x held held' u v →
+      Closes writes flushes gathers held' (record { lines = []; status = status }) outcome v w →
       Closes writes flushes gathers held (record { lines = x ∷ []; status = status }) outcome u w
   closes_put x held' status u v w p q = after q.calls refl
     where

@@ -1,5 +1,6 @@
 -- The listing by the grammar alone.
-use Rattle.std.proofs.Common.{add-zero, add_assoc, Bool, ◌≡◌, ◌↔◌, ℕ, suc, zero, ◌+◌, ◌<◌, ◌≤◌, List, [], ◌∷◌, ◌++◌, length, drop, Result, Ok, Err, refl, arith, ap, ◌∙◌, sym, subst, append_assoc, length-append}
+use Rattle.std.proofs.Common.{add-zero, add_assoc, Bool, ◌≡◌, ◌↔◌, ℕ, suc, zero, ◌+◌, ◌<◌, ◌≤◌, List, [], ◌∷◌, ◌++◌, length, drop, Result}
+use Rattle.std.proofs.Common.{Ok, Err, refl, arith, ap, ◌∙◌, sym, subst, append_assoc, length-append}
 use Rattle.std.proofs.Math.Seq.{take-append_seam, drop-append_seam}
 use Rattle.std.specs.List.{concat}
 use Rattle.x86_cli.proofs.ListingLemmas.Vocabulary.{Instruction, DecodeError, answer_of, count_of, Ending, line}
@@ -23,7 +24,7 @@ module _ (strict : Bool) (laws : GrammarLaws strict) (text : ℕ → Instruction
   IsHere place image e l = IsListing (rows_of packed) strict text place image e l
 
   -- what is left, where its answer is an error
-  error_here : (n x : ℕ) (xs : List ℕ) (e : Ending) (error : DecodeError) → Err error ≡ answer_of strict (x ∷ xs) →
+  pub error_here : (n x : ℕ) (xs : List ℕ) (e : Ending) (error : DecodeError) → Err error ≡ answer_of strict (x ∷ xs) →
       listing_from strict text n 0 (x ∷ xs) e ≡ at_error n error e
   unfolding listing_from decoded_of
   error_here n x xs e error h = grind arith
@@ -35,12 +36,13 @@ module _ (strict : Bool) (laws : GrammarLaws strict) (text : ℕ → Instruction
   end_here n (x ∷ xs) e last ends = grind (arith, error_here n x xs e ends.0, laws.only (x ∷ xs) (Err ends.0))
 
   -- a sentence and the bytes after it
-  sentence_here : (n : ℕ) (s rest : List ℕ) (e : Ending) (i : Instruction) → IsSentence (rows_of packed) strict s i →
+  pub sentence_here : (n : ℕ) (s rest : List ℕ) (e : Ending) (i : Instruction) → IsSentence (rows_of packed) strict s i →
       listing_from strict text n 0 (s ++ rest) e ≡ with_lines (line (text n i s) ∷ []) (listing_from strict text (n + length s) 0 rest e)
   unfolding decoded_of
   sentence_here n s rest e i is =
       let all = s ++ rest in
-      let ok : answer_of strict all ≡ Ok i = sym (laws.only all (Ok i) (length s) (record { sentence = s; rest = rest; begins = refl; long = refl; is = is })) in
+      let ok : answer_of strict all ≡ Ok i = sym (laws.only all (Ok i) (length s)
+      (record { sentence = s; rest = rest; begins = refl; long = refl; is = is })) in
       let l = laws.lengths all i ok in
       let len : i.length ≡ length s = ap (λ i. i.length) is.yields in
       let h = listing-whole strict text n all e i (grind arith) l.0 l.1 in
@@ -66,7 +68,13 @@ module _ (strict : Bool) (laws : GrammarLaws strict) (text : ℕ → Instruction
       IsAnswer (rows_of packed) strict (x ∷ xs) r (count_of strict (x ∷ xs)) → IsHere n (x ∷ xs) e (listing_from strict text n 0 (x ∷ xs) e)
   by_answer k n x xs e shorter le (Ok i) h a =
       let s = a.sentence in
-      let less : length a.rest ≤ k = omega (arith, ap (λ i. i.length) a.is.yields, ap length a.begins ∙ length-append s a.rest, le, (laws.lengths (x ∷ xs) i h).0) in
+      let less : length a.rest ≤ k = omega (
+        arith,
+        ap (λ i. i.length) a.is.yields,
+        ap length a.begins ∙ length-append s a.rest,
+        le,
+        (laws.lengths (x ∷ xs) i h).0,
+      ) in
       let t = shorter (n + length s) a.rest less in
       subst (λ ys. IsHere n ys e (listing_from strict text n 0 ys e)) (sym a.begins) (record {
         sentences = s ∷ t.sentences;
@@ -105,17 +113,24 @@ module _ (strict : Bool) (laws : GrammarLaws strict) where
   piece_is : (piece after : List ℕ) (a : Result Instruction DecodeError) → IsPiece (rows_of packed) strict piece after a →
       (answer_of strict (piece ++ after) ≡ a) × (cut_length a ≡ length piece) × (0 < length piece)
   piece_is piece after (Ok i) is =
-      let h : answer_of strict (piece ++ after) ≡ Ok i = sym (laws.only (piece ++ after) (Ok i) (length piece) (record { sentence = piece; rest = after; begins = refl; long = refl; is = is })) in
+      let h : answer_of strict (piece ++ after) ≡ Ok i =
+      sym (laws.only (piece ++ after) (Ok i) (length piece) (record { sentence = piece; rest = after; begins = refl; long = refl; is = is })) in
       let long : i.length ≡ length piece = ap (λ i. i.length) is.yields in
       (h, long, omega (arith, long, (laws.lengths (piece ++ after) i h).0))
   piece_is piece after (Err e) is = (sym (laws.only (piece ++ after) (Err e) is.1 is.2), sym is.0, omega (arith, is.0))
 
+  -- a cut has a byte
+  pub some_cut : (xs : List ℕ) (a : Result Instruction DecodeError) → answer_of strict xs ≡ a → 0 < cut_length a
+  some_cut xs (Ok i) h = (laws.lengths xs i h).0
+  some_cut xs (Err e) h = omega arith
+
   -- the first cut, by its answer, and those after it
-  first_cut : (place : ℕ) (xs : List ℕ) (a : Result Instruction DecodeError) → answer_of strict xs ≡ a → 0 < cut_length a → 0 < length xs →
+  pub first_cut : (place : ℕ) (xs : List ℕ) (a : Result Instruction DecodeError) → answer_of strict xs ≡ a → 0 < cut_length a → 0 < length xs →
       cuts_from strict place xs ≡ record { place = place; length = cut_length a; answer = a } ∷ cuts_from strict (place + cut_length a) (drop (cut_length a) xs)
   first_cut place xs a h some left =
       first_and_rest strict (cut_length a) place xs (ap cut_length h) some left
-      ∙ ap (λ (b : Result Instruction DecodeError). record { place = place; length = cut_length b; answer = b } ∷ cuts_from strict (place + cut_length a) (drop (cut_length a) xs)) h
+      ∙ ap (λ (b : Result Instruction DecodeError). record { place = place; length = cut_length b; answer = b } ∷
+      cuts_from strict (place + cut_length a) (drop (cut_length a) xs)) h
 
   cuts_are : (place : ℕ) (xs : List ℕ) (cs : List Cut) → AreHere place xs cs → cs ≡ cuts_from strict place xs
   cuts_are place xs [] is = sym (none_left strict place xs (ap length is))
@@ -124,11 +139,13 @@ module _ (strict : Bool) (laws : GrammarLaws strict) where
       let rest = cuts_are (place + length piece) after cs others in
       let first = first_cut place (piece ++ after) c.answer h.0 (omega (arith, h.1, h.2)) (omega (arith, h.2, length-append piece after)) in
       let here : c ≡ record { place = place; length = cut_length c.answer; answer = c.answer } = grind (arith, at, long, h.1) in
-      rw whole (ap (λ c. c ∷ cs) here ∙ ap (λ cs. record { place = place; length = cut_length c.answer; answer = c.answer } ∷ cs) (rest ∙ grind (arith, h.1, drop-append_seam piece after)) ∙ sym first)
+      rw whole (ap (λ c. c ∷ cs) here ∙ ap (λ cs. record { place = place; length = cut_length c.answer; answer = c.answer } ∷ cs)
+      (rest ∙ grind (arith, h.1, drop-append_seam piece after)) ∙ sym first)
 
   -- by the answer of bytes that aren't empty, where this is so of fewer bytes
   by_cut : (k place x : ℕ) (xs : List ℕ) → ((m : ℕ) (ys : List ℕ) → length ys ≤ k → AreHere m ys (cuts_from strict m ys)) → length xs ≤ k →
-      (a : Result Instruction DecodeError) → answer_of strict (x ∷ xs) ≡ a → IsAnswer (rows_of packed) strict (x ∷ xs) a (count_of strict (x ∷ xs)) → AreHere place (x ∷ xs) (cuts_from strict place (x ∷ xs))
+      (a : Result Instruction DecodeError) → answer_of strict (x ∷ xs) ≡ a →
+      IsAnswer (rows_of packed) strict (x ∷ xs) a (count_of strict (x ∷ xs)) → AreHere place (x ∷ xs) (cuts_from strict place (x ∷ xs))
   by_cut k place x xs fewer le (Ok i) h is =
       let s = is.sentence in
       let some = (laws.lengths (x ∷ xs) i h).0 in
@@ -139,12 +156,14 @@ module _ (strict : Bool) (laws : GrammarLaws strict) where
       let less : length is.rest ≤ k = omega (arith, long, ap length is.begins ∙ length-append s is.rest, le, some) in
       rw (first, others) (s, is.rest, is.begins, is.is, refl, long, fewer (place + length s) is.rest less)
   by_cut k place x xs fewer le (Err e) h is =
-      rw (first_cut place (x ∷ xs) (Err e) h (omega arith) (omega arith)) (x ∷ [], xs, refl, (refl, count_of strict (x ∷ xs), is), refl, refl, fewer (place + 1) xs le)
+      rw (first_cut place (x ∷ xs) (Err e) h (omega arith) (omega arith))
+      (x ∷ [], xs, refl, (refl, count_of strict (x ∷ xs), is), refl, refl, fewer (place + 1) xs le)
 
   cuts_there : (k place : ℕ) (xs : List ℕ) → length xs ≤ k → AreHere place xs (cuts_from strict place xs)
   cuts_there k place [] le = rw (none_left strict place [] refl) refl
   cuts_there zero place (x ∷ xs) le = absurd (omega (arith, le))
-  cuts_there (suc k) place (x ∷ xs) le = by_cut k place x xs (λ m ys. cuts_there k m ys) (omega (arith, le)) (answer_of strict (x ∷ xs)) refl (laws.there (x ∷ xs))
+  cuts_there (suc k) place (x ∷ xs) le = by_cut k place x xs (λ m ys. cuts_there k m ys) (omega (arith, le)) (answer_of strict (x ∷ xs))
+      refl (laws.there (x ∷ xs))
 
   pub cuts_exactly : (place : ℕ) (xs : List ℕ) (cs : List Cut) → AreHere place xs cs ↔ (cs ≡ cuts_from strict place xs)
   cuts_exactly place xs cs = (cuts_are place xs cs, λ is. rw is (cuts_there (length xs) place xs (omega arith)))

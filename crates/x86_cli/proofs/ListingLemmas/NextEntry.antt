@@ -24,13 +24,21 @@ module _ (strict : Bool) (text : ℕ → Instruction → List ℕ → List ℕ) 
     abbrev pub DecodedIs : Decoded Instruction → Type 0
     DecodedIs beginning = (xs : List ℕ) (stop : Stop) → decoded_of strict (rest_of ended w p r xs stop).image (rest_of ended w p r xs stop).ending ≡ beginning
 
-    pub entry_line : (i : Instruction) → DecodedIs (Decoded.Whole i) → 0 < i.length → i.length ≤ length w → (len : ℕ) (written : List ℕ) → len ≡ i.length → written ≡ text n i (take i.length w) →
+    pub entry_line : (i : Instruction) → DecodedIs (Decoded.Whole i) → 0 < i.length → i.length ≤ length w → (len : ℕ) (written : List ℕ) →
+        len ≡ i.length → written ≡ text n i (take i.length w) →
         IsEntry at at (entry.Line len) n written ended w p r
     entry_line i whole some le len written long is =
-        rw (long, is) (some, le, (λ xs stop. rest_line ended n w i p r xs stop (whole xs stop) some le), λ _ xs stop. rest_line ended n w i p r xs stop (whole xs stop) some le)
+        rw (long, is) (
+          some,
+          le,
+          (λ xs stop. rest_line ended n w i p r xs stop (whole xs stop) some le),
+          λ _ xs stop.
+              rest_line ended n w i p r xs stop (whole xs stop) some le,
+        )
 
     pub entry_refused : (error : DecodeError) (written : List ℕ) → DecodedIs (Decoded.Refused error) → IsEntry at at (entry.Refused error) n written ended w p r
-    entry_refused error written refused xs stop = listing-refused strict text n (rest_of ended w p r xs stop).image (rest_of ended w p r xs stop).ending error (refused xs stop)
+    entry_refused error written refused xs stop = listing-refused strict text n (rest_of ended w p r xs stop).image
+        (rest_of ended w p r xs stop).ending error (refused xs stop)
 
     pub entry_ended : (e : Ending) (written : List ℕ) → DecodedIs (Decoded.Ended e) → IsEntry at at (entry.Ended e) n written ended w p r
     entry_ended e written ends xs stop = listing-ended strict text n (rest_of ended w p r xs stop).image (rest_of ended w p r xs stop).ending e (ends xs stop)
@@ -49,6 +57,12 @@ module _ (strict : Bool) (laws : DecoderLaws strict) where
   decoded_fault w h = grind arith
 
   -- With a failure next, nothing but that is listed.
-  pub entry_undecided : (text : ℕ → Instruction → List ℕ → List ℕ) (ended : Option Ending) (n : ℕ) (written w : List ℕ) (p r : ℕ) → ended ≡ None → answer_of strict w ≡ Err DecodeError.ExhaustedInput →
+  pub entry_undecided : (text : ℕ → Instruction → List ℕ → List ℕ) (ended : Option Ending) (n : ℕ) (written w : List ℕ) (p r : ℕ) →
+      ended ≡ None → answer_of strict w ≡ Err DecodeError.ExhaustedInput →
       IsEntry (listing_at strict text) (listing_at strict text) entry.Undecided n written ended w p r
-  entry_undecided text ended n written w p r is h = (is, few_undecided w h, λ t needs. rw (no_bytes t.image needs.1, needs.0, append-nil) (listing-ended strict text n w Ending.Fault Ending.Fault (decoded_fault w h)))
+  entry_undecided text ended n written w p r is h = (
+    is,
+    few_undecided w h,
+    λ t needs. rw (no_bytes t.image needs.1, needs.0, append-nil)
+        (listing-ended strict text n w Ending.Fault Ending.Fault (decoded_fault w h)),
+  )

@@ -14,7 +14,9 @@ pub use Rattle.x86_cli.specs.declared.listings.status.Status.{Status}
 pub use Rattle.x86_decode.specs.Answer.{answer_of, count_of}
 pub use Rattle.x86_decode.specs.declared.instructions.Instruction.{Instruction}
 pub use Rattle.x86_fields.specs.declared.errors.DecodeError.{DecodeError}
-pub use Rattle.x86_streams.specs.Outside.Chain.{Call, Calls, WriterCalls, EndsIn, Fails, Flush, FlushesOnce, Interruptions, IsFlush, Puts, Read, ReadsOnce, Sends, SendsAll, Uninterrupted, Write, WritesOnce, not_taken, received, sent, stop_of}
+pub use Rattle.x86_streams.specs.Outside.Chain.{Call, Calls, WriterCalls, EndsIn, Fails, Flush, FlushesOnce, Interruptions, IsFlush, Puts}
+pub use Rattle.x86_streams.specs.Outside.Chain.{Read, ReadsOnce, Sends, SendsAll, Uninterrupted, Write, WritesOnce, not_taken, received}
+pub use Rattle.x86_streams.specs.Outside.Chain.{sent, stop_of}
 pub use Rattle.x86_streams.specs.Outside.Stop.{End, Failed, Stop}
 pub use Rattle.x86_streams.specs.Text.{Text, text_at, text_of}
 pub use Rattle.x86_streams.specs.Text.Window.{rest_of}

@@ -27,7 +27,8 @@ module _ (strict : Bool) (laws : DecoderLaws strict) where
   Yields None w d = (answer_of strict w ≢ Err ExhaustedInput) × (d ≡ decoded_before_end (answer_of strict w))
   Yields (Some e) w d = d ≡ decoded_of strict w e
 
-  pub decoded-stays : (w ys : List ℕ) (e : Ending) → answer_of strict w ≢ Err ExhaustedInput → decoded_of strict (w ++ ys) e ≡ decoded_before_end (answer_of strict w)
+  pub decoded-stays : (w ys : List ℕ) (e : Ending) → answer_of strict w ≢ Err ExhaustedInput →
+      decoded_of strict (w ++ ys) e ≡ decoded_before_end (answer_of strict w)
   unfolding decoded_of
   decoded-stays w ys e ne = let empty = laws.empty in let h = laws.stay w ys ne in grind arith
 
@@ -44,11 +45,13 @@ module _ (strict : Bool) (laws : DecoderLaws strict) where
   unfolding decoded_of
   yields_whole ended w s i answer bytes = let empty = laws.empty in grind arith
 
-  pub yields_refused : (ended : Option Ending) (w s : List ℕ) (error : DecodeError) → Err error ≡ answer_of strict s → s ≡ w → IsAtRefusal refusal.Refused error ended w → Yields ended w (Refused error)
+  pub yields_refused : (ended : Option Ending) (w s : List ℕ) (error : DecodeError) → Err error ≡ answer_of strict s → s ≡ w →
+      IsAtRefusal refusal.Refused error ended w → Yields ended w (Refused error)
   unfolding decoded_of
   yields_refused None w s error answer bytes at = grind arith
   yields_refused (Some e) w s error answer bytes at = let h = at.1 e refl in grind arith
 
-  pub yields_ended : (ended : Option Ending) (w s : List ℕ) (error : DecodeError) (e : Ending) → Err error ≡ answer_of strict s → s ≡ w → IsAtRefusal (refusal.Ended e) error ended w → Yields ended w (Ended e)
+  pub yields_ended : (ended : Option Ending) (w s : List ℕ) (error : DecodeError) (e : Ending) → Err error ≡ answer_of strict s → s ≡ w →
+      IsAtRefusal (refusal.Ended e) error ended w → Yields ended w (Ended e)
   unfolding decoded_of
   yields_ended ended w s error e answer bytes at = grind arith

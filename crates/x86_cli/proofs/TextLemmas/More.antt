@@ -1,5 +1,6 @@
 -- What a text is with more bytes after its own.
-use Rattle.std.proofs.Common.{◌≡◌, ℕ, zero, ◌+◌, ◌-◌, ◌*◌, ◌≤◌, List, [], ◌∷◌, ◌++◌, length, take, drop, Option, Some, None, Bool, true, false, if◌then◌else◌, refl, ◌∙◌, arith, ap, length-drop}
+use Rattle.std.proofs.Common.{◌≡◌, ℕ, zero, ◌+◌, ◌-◌, ◌*◌, ◌≤◌, List, [], ◌∷◌, ◌++◌, length, take, drop, Option, Some, None, Bool, true}
+use Rattle.std.proofs.Common.{false, if◌then◌else◌, refl, ◌∙◌, arith, ap, length-drop}
 use Rattle.std.proofs.Math.Seq.{take-append-add}
 use Rattle.std.proofs.lemmas.List.{take_all}
 use Rattle.std.specs.Prelude.{replicate, is_some, ◌||◌}
@@ -34,7 +35,8 @@ zeros = replicate 30 48
 abbrev pub Gains : List ℕ → List ℕ → Type 0
 Gains old new = (ys : List ℕ) × (new ≡ old ++ ys) × (15 ≤ length ys)
 
-half_gains : (c : Bool) (v : Option ℕ) → (if c || is_some v then None else Some zero) ≡ None → Gains [] (if c then image_of zeros else paired v (Some 0) (image_of (replicate 29 48)))
+half_gains : (c : Bool) (v : Option ℕ) → (if c || is_some v then None else Some zero) ≡ None →
+    Gains [] (if c then image_of zeros else paired v (Some 0) (image_of (replicate 29 48)))
 unfolding image_of value_of
 half_gains true v e = (image_of zeros, refl, omega arith)
 half_gains false (Some v) e = ((16 * v + 0) ∷ image_of (replicate 29 48), refl, omega arith)
@@ -78,7 +80,8 @@ module _ (max : ℕ) (bytes : List ℕ) (faults : (text_of max bytes Failed).end
   fits = omega (arith, ap length is_clear.1, length-drop max bytes)
 
   taken : (xs : List ℕ) → take max (bytes ++ xs) ≡ bytes ++ take (max - length bytes) xs
-  taken xs = let e : max ≡ length bytes + (max - length bytes) = omega (arith, fits) in ap (λ n. take n (bytes ++ xs)) e ∙ take-append-add bytes xs (max - length bytes)
+  taken xs = let e : max ≡ length bytes + (max - length bytes) = omega (arith, fits) in ap (λ n. take n (bytes ++ xs)) e
+      ∙ take-append-add bytes xs (max - length bytes)
 
   pub text_more : (xs : List ℕ) (stop : Stop) → Continues (text_of max bytes Failed).image (text_of max (bytes ++ xs) stop).image
   unfolding text_at

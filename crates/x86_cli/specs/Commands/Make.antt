@@ -1,5 +1,6 @@
 -- The encodings that `make` makes, and what it counts of their answers.
-use Rattle.std.specs.Prelude.{ℕ, zero, suc, ◌+◌, ◌/◌, ◌%◌, ◌==◌, ◌||◌, Bool, true, false, if◌then◌else◌, List, [], ◌∷◌, ◌++◌, length, take, Result, Ok, Err, Some, None, option_to_list, codes, decimal}
+use Rattle.std.specs.Prelude.{ℕ, zero, suc, ◌+◌, ◌/◌, ◌%◌, ◌==◌, ◌||◌, Bool, true, false, if◌then◌else◌, List, [], ◌∷◌, ◌++◌, length, take}
+use Rattle.std.specs.Prelude.{Result, Ok, Err, Some, None, option_to_list, codes, decimal}
 use Rattle.std.specs.Int.{w32, to_le_bytes}
 use Rattle.x86_regs.specs.declared.RegisterClass.{RegisterClass}
 use Rattle.x86_regs.specs.Register.{class}
@@ -59,5 +60,6 @@ tally_of (suc n) =
 abbrev pub made_listing : ℕ → Listing
 made_listing n =
     let t = tally_of n in
-    let text = decimal n ++ codes " instructions " ++ decimal t.bytes ++ codes " bytes " ++ decimal t.at_rip ++ codes " rip " ++ decimal t.absolute ++ codes " abs" in
+    let text = decimal n ++ codes " instructions " ++ decimal t.bytes ++ codes " bytes " ++ decimal t.at_rip ++ codes " rip "
+    ++ decimal t.absolute ++ codes " abs" in
     record { lines = line text ∷ []; status = Done }

@@ -43,16 +43,19 @@ up_to_refusal strict text = record {
 abbrev pub task_of : Request → Task
 task_of (Request.Reads (Command.List strict)) = up_to_refusal strict (λ place instruction bytes. line_of place instruction)
 task_of (Request.Reads Command.Fields) = up_to_refusal false (λ place instruction bytes. fields_line place (parts_of false bytes))
-task_of (Request.Reads Command.Tighten) = up_to_refusal false (λ place instruction bytes. least_text place (length_of instruction) (shortest_length false bytes))
+task_of (Request.Reads Command.Tighten) = up_to_refusal false
+    (λ place instruction bytes. least_text place (length_of instruction) (shortest_length false bytes))
 task_of (Request.Reads Command.Sweep) = record { max = 67108864; known = known_sweep_at false 0; lists = sweep_at false 0 }
 task_of (Request.Reads Command.Targets) = record { max = 16384; known = λ t. at_end t.ending; lists = targets_at false 0 }
 task_of (Request.Makes n) = record { max = 0; known = λ t. made_listing n; lists = λ t. made_listing n }
 
 -- What a run does with a source and a sink: each read is a call of the source, and each write a put
 -- of one line.
-abbrev pub Runs : {S K : Type 0} → (S → Got → S → Type 0) → (K → List ℕ → Result ⊤ SinkFailed → K → Type 0) → Request → Status → Joined S K → Joined S K → Type 0
+abbrev pub Runs : {S K : Type 0} → (S → Got → S → Type 0) → (K → List ℕ → Result ⊤ SinkFailed → K → Type 0) → Request → Status →
+    Joined S K → Joined S K → Type 0
 Runs gives takes request status streams streams' = (gone : Bool)
-    × Performs (ReadsReader (ReadsByte gives)) (WritesWriter (PutsPiece takes)) (FlushesWriter HoldsNothing) false (task_of request) (record { status = status; gone = gone }) streams streams'
+    × Performs (ReadsReader (ReadsByte gives)) (WritesWriter (PutsPiece takes)) (FlushesWriter HoldsNothing) false (task_of request)
+    (record { status = status; gone = gone }) streams streams'
 
 -- ---- of a command
 

@@ -19,7 +19,8 @@ image_max = 8192
 
 -- a line for each marked place from one on; then the end's
 abbrev pub targets_at : Bool → ℕ → Text → Listing
-targets_at strict place t = with_lines (map (λ p. line (decimal p)) (filter (is_marked strict t.image) (range_with_len place (length t.image - place)))) (at_end t.ending)
+targets_at strict place t = with_lines (map (λ p. line (decimal p))
+    (filter (is_marked strict t.image) (range_with_len place (length t.image - place)))) (at_end t.ending)
 
 -- A text was read to its end, and is this one; or a flush before a read failed. Nothing was written.
 abbrev pub EndsWhole : ℕ → Result WholeText WriteFailed → List Call → Type 0

@@ -20,7 +20,8 @@ decoded_with i (Ended e) = Ended e
 
 -- what the window shows of its first bytes, whatever follows
 abbrev pub Shows : Bool → Decoded Instruction → Option Ending → List ℕ → Type 0
-Shows strict (Whole i) ended window = (0 < length_of i) × (length_of i ≤ length window) × ((ys : List ℕ) (e : Ending) → decoded_of strict (window ++ ys) e ≡ Whole i)
+Shows strict (Whole i) ended window = (0 < length_of i) × (length_of i ≤ length window)
+    × ((ys : List ℕ) (e : Ending) → decoded_of strict (window ++ ys) e ≡ Whole i)
 Shows strict (Refused error) ended window =
     (error ≡ ExhaustedInput → ended ≡ Some Clean) × (error ≢ ExhaustedInput → (ys : List ℕ) (e : Ending) → decoded_of strict (window ++ ys) e ≡ Refused error)
 Shows strict (Ended e) ended window = ended ≡ Some e

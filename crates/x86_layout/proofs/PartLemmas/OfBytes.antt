@@ -1,5 +1,6 @@
 -- The parts of the encoding at the beginning of bytes: the pieces of any whole encoding there, and their lengths.
-use Rattle.std.proofs.Common.{◌≡◌, ℕ, Bool, true, if◌then◌else◌, List, [], ◌∷◌, ◌++◌, length, slice_index, Option, Some, None, is_some, refl, sym, ap, ◌∙◌, append_assoc, arith, take, Ok, subst, ◌≤◌, length-append}
+use Rattle.std.proofs.Common.{◌≡◌, ℕ, Bool, true, if◌then◌else◌, List, [], ◌∷◌, ◌++◌, length, slice_index, Option, Some, None, is_some}
+use Rattle.std.proofs.Common.{refl, sym, ap, ◌∙◌, append_assoc, arith, take, Ok, subst, ◌≤◌, length-append}
 use Rattle.std.specs.List.{prefix_len}
 use Rattle.std.proofs.lemmas.Bool.{cond_both}
 use Rattle.x86_fields.specs.declared.prefixes.Prefixes.{Prefixes}
@@ -17,8 +18,10 @@ use Rattle.x86_decode.specs.Head.{escape_bytes, seen_by}
 use Rattle.x86_fields.specs.Parts.{PartLists, HasFieldLengths}
 use Rattle.x86_layout.specs.Parts.Heads.{one_if}
 use Rattle.x86_layout.specs.Parts.Split.{Encoding, record_in, sib_width, HasParts, joined}
-use Rattle.x86_layout.specs.Parts.OfBytes.{ask_by, ask_after_run, displacement_length_by, run_in, after_run, map_in, opcode_in, tail_in, ask_in, modrm_in, sib_in, displacement_in, immediate_in, suffix_in, parts_of}
-use Rattle.x86_layout.proofs.PartLemmas.Part.{cut_is, halves, run_length_is, map_is, as_it_is, read_as, modrm_count, sib_count, immediate_count, suffix_count, immediates_long}
+use Rattle.x86_layout.specs.Parts.OfBytes.{ask_by, ask_after_run, displacement_length_by, run_in, after_run, map_in, opcode_in, tail_in}
+use Rattle.x86_layout.specs.Parts.OfBytes.{ask_in, modrm_in, sib_in, displacement_in, immediate_in, suffix_in, parts_of}
+use Rattle.x86_layout.proofs.PartLemmas.Part.{cut_is, halves, run_length_is, map_is, as_it_is, read_as, modrm_count, sib_count}
+use Rattle.x86_layout.proofs.PartLemmas.Part.{immediate_count, suffix_count, immediates_long}
 use Rattle.x86_forms.specs.Words.{rows_of, packed}
 use Rattle.x86_decode.specs.declared.instructions.Instruction.{Instruction}
 use Rattle.x86_decode.specs.Grammar.{IsAnswer, IsSentence}
@@ -49,16 +52,24 @@ address_parts : (p : Prefixes) (m : ℕ) (address : List ℕ) (memory : Option R
 address_parts p m address None h = record { sib = []; disp = []; spelled = h.1; sib_long = cc (h.0); disp_long = cc (h.0) }
 address_parts p m address (Some raw) h =
     let s = h.1 in
-    record { sib = option_bytes s.sib; disp = s.disp; spelled = s.spelled; sib_long = cc (option_count s.sib, s.sib_present, h.0); disp_long = cc (s.disp_length, first_of s.sib, h.0) }
+    record {
+      sib = option_bytes s.sib;
+      disp = s.disp;
+      spelled = s.spelled;
+      sib_long = cc (option_count s.sib, s.sib_present, h.0);
+      disp_long = cc (s.disp_length, first_of s.sib, h.0);
+    }
 
 -- in a memory form that is read as such, the byte is used as it is
-disp_by : (memory : Bool) (raw used : ℕ) (sib : Option ℕ) → (memory ≡ true → used ≡ raw) → (if memory then displacement_width raw sib else 0) ≡ (if memory then displacement_width used sib else 0)
+disp_by : (memory : Bool) (raw used : ℕ) (sib : Option ℕ) → (memory ≡ true → used ≡ raw) →
+    (if memory then displacement_width raw sib else 0) ≡ (if memory then displacement_width used sib else 0)
 disp_by memory raw used sib h = grind arith
 
 -- ---- after the opcode byte
 
 -- These lists are the pieces of a row.
-pub record HoldsPieces (r : RowRecord) (p : Prefixes) (tail : List ℕ) (reading : Reading) (a : SpellsRow r p tail reading) (modrm_bytes sib_bytes displacement_bytes immediate_bytes suffix_bytes : List ℕ) : Type 0 where
+pub record HoldsPieces (r : RowRecord) (p : Prefixes) (tail : List ℕ) (reading : Reading) (a : SpellsRow r p tail reading)
+    (modrm_bytes sib_bytes displacement_bytes immediate_bytes suffix_bytes : List ℕ) : Type 0 where
   pub modrm : modrm_bytes ≡ a.modrm
   pub sib : length sib_bytes ≡ sib_width (modrm_of r.modrm a.modrm)
   pub address : sib_bytes ++ displacement_bytes ≡ a.tail_spelled.pieces.address
@@ -70,7 +81,8 @@ module _ {r : RowRecord} {p : Prefixes} {tail : List ℕ} {reading : Reading} (a
   m = modrm_of r.modrm a.modrm
 
   -- SIB as long as it says tells how long the displacement is
-  pub displacement_long : (sib disp : List ℕ) → sib ++ disp ≡ a.tail_spelled.pieces.address → length sib ≡ sib_width m → length disp ≡ (if is_memory m then displacement_width m (first_byte sib) else 0)
+  pub displacement_long : (sib disp : List ℕ) → sib ++ disp ≡ a.tail_spelled.pieces.address → length sib ≡ sib_width m →
+      length disp ≡ (if is_memory m then displacement_width m (first_byte sib) else 0)
   displacement_long sib disp e h =
       let x = address_parts p m _ _ a.tail_spelled.pieces.address_spelled in
       let same = halves sib disp x.sib x.disp (e ∙ x.spelled) (h ∙ sym x.sib_long) in
@@ -96,7 +108,8 @@ module _ {r : RowRecord} {p : Prefixes} {tail : List ℕ} {reading : Reading} (a
         let x = address_parts p m _ _ s.address_spelled in
         let last : List ℕ = s.immediates ++ (s.suffix ++ rest) in
         let modrm = cut_is a.modrm more begins (modrm_count a more begins k) in
-        let spelled : more ≡ x.sib ++ (x.disp ++ last) = ap (λ l. l ++ rest) s.spelled ∙ ap (λ l. (l ++ (s.immediates ++ s.suffix)) ++ rest) x.spelled ∙ simp append_assoc in
+        let spelled : more ≡ x.sib ++ (x.disp ++ last) = ap (λ l. l ++ rest) s.spelled
+        ∙ ap (λ l. (l ++ (s.immediates ++ s.suffix)) ++ rest) x.spelled ∙ simp append_assoc in
         let sib = cut_is x.sib (x.disp ++ last) (modrm.1 ∙ spelled) (sib_count a more begins k ∙ sym x.sib_long) in
         let disp = cut_is x.disp last sib.1 (ap (displacement_length_by ask first) sib.0 ∙ width_is x.sib ∙ sym x.disp_long) in
         let immediate = cut_is s.immediates (s.suffix ++ rest) disp.1 (immediate_count a more begins k) in
@@ -114,7 +127,8 @@ pub record HasHead (strict : Bool) (bytes s rest : List ℕ) (reading : Reading)
   pub tail : tail_in bytes ≡ w.tail ++ rest
   pub ask : ask_in bytes strict ≡ ask_of (record_in strict s reading w) (slice_index (tail_in bytes) 0)
 
-pub has_head : {strict : Bool} {bytes s : List ℕ} (rest : List ℕ) {reading : Reading} (w : Encoding strict s reading) → bytes ≡ s ++ rest → HasHead strict bytes s rest reading w
+pub has_head : {strict : Bool} {bytes s : List ℕ} (rest : List ℕ) {reading : Reading} (w : Encoding strict s reading) → bytes ≡ s ++ rest →
+    HasHead strict bytes s rest reading w
 has_head {strict = strict} {bytes = bytes} rest w begins =
     let tail' : List ℕ = w.tail ++ rest in
     let after_prefixes : List ℕ = escape_bytes w.map ++ w.opcode ∷ tail' in
@@ -139,7 +153,8 @@ has_head {strict = strict} {bytes = bytes} rest w begins =
     }
 
 -- The parts of bytes that begin with a whole encoding are its pieces.
-pub parts_are : {strict : Bool} {bytes s : List ℕ} (rest : List ℕ) {reading : Reading} (w : Encoding strict s reading) → bytes ≡ s ++ rest → HasParts strict s reading w (parts_of strict bytes)
+pub parts_are : {strict : Bool} {bytes s : List ℕ} (rest : List ℕ) {reading : Reading} (w : Encoding strict s reading) → bytes ≡ s ++ rest →
+    HasParts strict s reading w (parts_of strict bytes)
 unfolding parts_of
 parts_are rest w begins =
     let h = has_head rest w begins in
@@ -159,10 +174,12 @@ joined_is {w = w} h =
 abbrev lists : List ℕ → List ℕ → List ℕ → List ℕ → List ℕ → List ℕ → List ℕ → List ℕ → PartLists
 lists a b c d e f g h = record { prefixes = a; escape = b; opcode = c; modrm = d; sib = e; displacement = f; immediate = g; suffix = h }
 
-pub parts_once : {strict : Bool} {s : List ℕ} {reading : Reading} {w : Encoding strict s reading} {a b : PartLists} → HasParts strict s reading w a → HasParts strict s reading w b → a ≡ b
+pub parts_once : {strict : Bool} {s : List ℕ} {reading : Reading} {w : Encoding strict s reading} {a b : PartLists} →
+    HasParts strict s reading w a → HasParts strict s reading w b → a ≡ b
 parts_once {a = a} {b = b} h k =
     let address = halves a.sib a.displacement b.sib b.displacement (h.address ∙ sym k.address) (h.sib ∙ sym k.sib) in
-    let same : lists a.prefixes a.escape a.opcode a.modrm a.sib a.displacement a.immediate a.suffix ≡ lists b.prefixes b.escape b.opcode b.modrm b.sib b.displacement b.immediate b.suffix = cc (address.0, address.1) in
+    let same : lists a.prefixes a.escape a.opcode a.modrm a.sib a.displacement a.immediate a.suffix ≡ lists b.prefixes b.escape b.opcode
+    b.modrm b.sib b.displacement b.immediate b.suffix = cc (address.0, address.1) in
     same
 
 -- ---- the sentence that accepted bytes begin with
@@ -178,7 +195,10 @@ pub record IsFirstSentence (strict : Bool) (bytes encoding : List ℕ) (instruct
   pub is : IsSentence (rows_of packed) strict encoding instruction
 
 -- As many bytes as the instruction has are that sentence.
-pub beginning_of : (strict : Bool) (bytes : List ℕ) {encoding : List ℕ} {instruction : Instruction} {n : ℕ} → answer_of strict bytes ≡ Ok instruction → IsAnswer (rows_of packed) strict bytes (answer_of strict bytes) (count_of strict bytes) → ((i : Instruction) → answer_of strict bytes ≡ Ok i → i.length ≡ count_of strict bytes) → n ≡ instruction.length → encoding ≡ take n bytes → IsFirstSentence strict bytes encoding instruction
+pub beginning_of : (strict : Bool) (bytes : List ℕ) {encoding : List ℕ} {instruction : Instruction} {n : ℕ} →
+    answer_of strict bytes ≡ Ok instruction → IsAnswer (rows_of packed) strict bytes (answer_of strict bytes) (count_of strict bytes) →
+    ((i : Instruction) → answer_of strict bytes ≡ Ok i → i.length ≡ count_of strict bytes) → n ≡ instruction.length →
+    encoding ≡ take n bytes → IsFirstSentence strict bytes encoding instruction
 beginning_of strict bytes {instruction = i} value answer counts long beginning =
     let accepted = subst (λ r. IsAnswer (rows_of packed) strict bytes r (count_of strict bytes)) value answer in
     let counted = counts i value in
@@ -200,7 +220,8 @@ immediate_small strict row p m =
     cond_both (is_group row.form) (group_record strict row p) (form_record row p) (λ r. immediates_width (r.plan m).encodings ≤ 8)
     (λ _. group_narrow strict row p m) (λ _. plain_narrow row p m)
 
-pub lengths_of : {strict : Bool} {s : List ℕ} {reading : Reading} {w : Encoding strict s reading} {p : PartLists} → HasParts strict s reading w p → length s ≤ 15 → HasFieldLengths p
+pub lengths_of : {strict : Bool} {s : List ℕ} {reading : Reading} {w : Encoding strict s reading} {p : PartLists} →
+    HasParts strict s reading w p → length s ≤ 15 → HasFieldLengths p
 lengths_of {strict = strict} {w = w} {p = p} h short =
     let a = w.row_spelled in
     let r = record_in strict _ _ w in

@@ -1,5 +1,6 @@
 -- Where the parts of an encoding are.
-use Rattle.std.proofs.Common.{◌≡◌, ℕ, ◌≤◌, ◌==◌, ◌&&◌, Bool, true, if◌then◌else◌, List, [], ◌∷◌, ◌++◌, length, take, drop, map, slice_index, Option, Some, None, refl, ap, arith, length-append}
+use Rattle.std.proofs.Common.{◌≡◌, ℕ, ◌≤◌, ◌==◌, ◌&&◌, Bool, true, if◌then◌else◌, List, [], ◌∷◌, ◌++◌, length, take, drop, map, slice_index}
+use Rattle.std.proofs.Common.{Option, Some, None, refl, ap, arith, length-append}
 use Rattle.std.specs.List.{list_all, prefix_len, take_while}
 use Rattle.std.proofs.lemmas.List.Sums.{take_while-cons}
 use Rattle.std.proofs.Math.Seq.{take-append_seam, drop-append_seam}
@@ -44,7 +45,8 @@ halves xs ys a b e h = (cc (take-append_seam xs ys, take-append_seam a b), cc (d
 -- ---- the run
 
 -- it ends before an escape, and before an opcode byte without one
-pub run_length_is : (run : List ℕ) (m : Map) (b : ℕ) (tail : List ℕ) → is_run run ≡ true → is_opcode m b ≡ true → prefix_len is_prefix (run ++ (escape_bytes m ++ b ∷ tail)) ≡ length run
+pub run_length_is : (run : List ℕ) (m : Map) (b : ℕ) (tail : List ℕ) → is_run run ≡ true → is_opcode m b ≡ true →
+    prefix_len is_prefix (run ++ (escape_bytes m ++ b ∷ tail)) ≡ length run
 run_length_is [] m b tail h k = grind (arith, nat_tests)
 run_length_is (c ∷ run) m b tail h k =
     let both = and_parts (is_prefix c) (is_run run) h in
@@ -57,11 +59,13 @@ all_pass p (x ∷ xs) = let e = take_while-cons p x xs in let h = all_pass p xs 
 
 -- ---- the escape
 
-pub map_is : (m : Map) (b : ℕ) (tail : List ℕ) → is_opcode m b ≡ true → map_of (slice_index (escape_bytes m ++ b ∷ tail) 0) (slice_index (escape_bytes m ++ b ∷ tail) 1) ≡ m
+pub map_is : (m : Map) (b : ℕ) (tail : List ℕ) → is_opcode m b ≡ true →
+    map_of (slice_index (escape_bytes m ++ b ∷ tail) 0) (slice_index (escape_bytes m ++ b ∷ tail) 1) ≡ m
 map_is m b tail h = grind (arith, nat_tests)
 
 -- the escape of a map is the map by the first two bytes, where these have its length
-pub map_named_is : (l : List ℕ) → map_named l ≡ (let m : Map = map_of (slice_index l 0) (slice_index l 1) in if length (escape_bytes m) == length l then Some m else None)
+pub map_named_is : (l : List ℕ) → map_named l ≡
+    (let m : Map = map_of (slice_index l 0) (slice_index l 1) in if length (escape_bytes m) == length l then Some m else None)
 map_named_is l = grind (arith, nat_tests)
 
 -- ---- what a row has
@@ -75,7 +79,8 @@ use_width u = grind arith
 pub verdict_width : (v : Verdict) → one_if (uses_suffix v) ≡ suffix_width v
 verdict_width v = grind arith
 
-pub operands_long : (encodings : List OperandEncoding) (p : Prefixes) (m : ℕ) (memory : Option Raw) (bytes : List ℕ) (operand_pairs : List (Slot × Operand)) → SpellsOperands encodings p m memory bytes operand_pairs → length bytes ≡ total (map immediate_width encodings)
+pub operands_long : (encodings : List OperandEncoding) (p : Prefixes) (m : ℕ) (memory : Option Raw) (bytes : List ℕ)
+    (operand_pairs : List (Slot × Operand)) → SpellsOperands encodings p m memory bytes operand_pairs → length bytes ≡ total (map immediate_width encodings)
 operands_long [] p m memory bytes operand_pairs h = ap length h.0
 operands_long (s ∷ rest) p m memory bytes operand_pairs h =
     let following = operands_long rest p m memory h.tail h.others h.tail_spelled in

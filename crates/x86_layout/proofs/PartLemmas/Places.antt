@@ -16,7 +16,8 @@ use Rattle.x86_layout.proofs.PartLemmas.Part.{cut_is}
 suffix_count : (verdict : Verdict) (n : ℕ) → n ≡ suffix_width verdict → from_bool (nat_lt 0 n) ≡ n
 suffix_count verdict n h = grind (arith, nat_tests)
 
-module _ {strict : Bool} {s : List ℕ} {reading : Reading} (w : Encoding strict s reading) {places : Places} (are : places ≡ places_of (rows_of packed) strict s reading w) where
+module _ {strict : Bool} {s : List ℕ} {reading : Reading} (w : Encoding strict s reading) {places : Places}
+    (are : places ≡ places_of (rows_of packed) strict s reading w) where
   abbrev pub before : List ℕ
   before = w.run ++ escape_bytes w.map
 
@@ -44,13 +45,17 @@ module _ {strict : Bool} {s : List ℕ} {reading : Reading} (w : Encoding strict
     pub fields_cut : {tail : List ℕ} {k : ℕ} → tail ≡ fields ++ last → k ≡ places.address_end → (take (k - n) tail ≡ fields) × (drop (k - n) tail ≡ last)
     fields_cut {k = k} e k_is =
         let long = opcode_end in
-        let end : k ≡ length w.run + (length (escape_bytes w.map) + 1) + (length w.row_spelled.modrm + length w.row_spelled.tail_spelled.pieces.address) = k_is ∙ ap (λ p. p.address_end) are in
+        let end : k ≡ length w.run + (length (escape_bytes w.map) + 1) +
+        (length w.row_spelled.modrm + length w.row_spelled.tail_spelled.pieces.address) = k_is ∙ ap (λ p. p.address_end) are in
         cut_is fields last e (omega (arith, length-append {A = ℕ}, long, end))
 
-  pub escape_cut : {bytes : List ℕ} {n : ℕ} → bytes ≡ before → n ≡ length (escape_bytes w.map) → (take (length bytes - n) bytes ≡ w.run) × (drop (length bytes - n) bytes ≡ escape_bytes w.map)
+  pub escape_cut : {bytes : List ℕ} {n : ℕ} → bytes ≡ before → n ≡ length (escape_bytes w.map) → (take (length bytes - n) bytes ≡ w.run)
+      × (drop (length bytes - n) bytes ≡ escape_bytes w.map)
   escape_cut e long = let all = ap length e in cut_is w.run (escape_bytes w.map) e (omega (arith, length-append {A = ℕ}, all, long))
 
-  pub suffix_cut : {bytes : List ℕ} {n : ℕ} → bytes ≡ last → n ≡ from_bool places.has_suffix → (take (length bytes - n) bytes ≡ w.row_spelled.tail_spelled.pieces.immediates) × (drop (length bytes - n) bytes ≡ w.row_spelled.tail_spelled.pieces.suffix)
+  pub suffix_cut : {bytes : List ℕ} {n : ℕ} → bytes ≡ last → n ≡ from_bool places.has_suffix →
+      (take (length bytes - n) bytes ≡ w.row_spelled.tail_spelled.pieces.immediates)
+      × (drop (length bytes - n) bytes ≡ w.row_spelled.tail_spelled.pieces.suffix)
   suffix_cut e n_is =
       let t = w.row_spelled.tail_spelled.pieces in
       let all = ap length e in

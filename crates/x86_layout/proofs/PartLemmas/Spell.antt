@@ -1,5 +1,6 @@
 -- Fields that meet the conditions on their row spell what the row has, and the other way round.
-use Rattle.std.proofs.Common.{◌↔◌, ◌≡◌, ℕ, ◌==◌, ◌&&◌, ◌||◌, not, Bool, true, false, if◌then◌else◌, List, [], ◌∷◌, ◌++◌, length, take, drop, map, Option, Some, None, is_some, is_none, refl, sym, ap, subst, ◌∙◌, arith, length-take, length-drop}
+use Rattle.std.proofs.Common.{◌↔◌, ◌≡◌, ℕ, ◌==◌, ◌&&◌, ◌||◌, not, Bool, true, false, if◌then◌else◌, List, [], ◌∷◌, ◌++◌, length, take, drop}
+use Rattle.std.proofs.Common.{map, Option, Some, None, is_some, is_none, refl, sym, ap, subst, ◌∙◌, arith, length-take, length-drop}
 use Rattle.std.proofs.lemmas.List.{take-append-drop, nil_from_length}
 use Rattle.std.proofs.lemmas.Bool.Decides.{nat_tests}
 use Rattle.x86_fields.specs.declared.prefixes.Prefixes.{Prefixes}
@@ -27,8 +28,18 @@ use Rattle.x86_layout.proofs.PartLemmas.OfBytes.{HoldsPieces, option_count, firs
 -- ---- tests
 
 -- five numbers are what they are tested for
-tests_five : (a a' b b' c c' d d' e e' : ℕ) → (((a == a') && (b == b') && (c == c') && (d == d') && (e == e')) ≡ true) ↔ ((a ≡ a') × (b ≡ b') × (c ≡ c') × (d ≡ d') × (e ≡ e'))
-tests_five a a' b b' c c' d d' e e' = (λ h. (grind (arith, nat_tests), grind (arith, nat_tests), grind (arith, nat_tests), grind (arith, nat_tests), grind (arith, nat_tests)), λ h. grind (arith, nat_tests))
+tests_five : (a a' b b' c c' d d' e e' : ℕ) → (((a == a') && (b == b') && (c == c') && (d == d') && (e == e')) ≡ true) ↔
+    ((a ≡ a') × (b ≡ b') × (c ≡ c') × (d ≡ d') × (e ≡ e'))
+tests_five a a' b b' c c' d d' e e' = (
+  λ h. (
+    grind (arith, nat_tests),
+    grind (arith, nat_tests),
+    grind (arith, nat_tests),
+    grind (arith, nat_tests),
+    grind (arith, nat_tests),
+  ),
+  λ h. grind (arith, nat_tests),
+)
 
 three_of : (a b c d : Bool) → (a && (not b || c) && not d) ≡ true → (a ≡ true) × ((not b || c) ≡ true) × (d ≡ false)
 three_of a b c d h = (grind arith, grind arith, grind arith)
@@ -41,7 +52,8 @@ some_is o h = grind arith
 
 -- ---- the pieces that a row has
 
-spell_operands : (encodings : List OperandEncoding) (p : Prefixes) (m : ℕ) (memory : Option Raw) (bytes : List ℕ) → length bytes ≡ total (map immediate_width encodings) → (operand_pairs : List (Slot × Operand)) × SpellsOperands encodings p m memory bytes operand_pairs
+spell_operands : (encodings : List OperandEncoding) (p : Prefixes) (m : ℕ) (memory : Option Raw) (bytes : List ℕ) →
+    length bytes ≡ total (map immediate_width encodings) → (operand_pairs : List (Slot × Operand)) × SpellsOperands encodings p m memory bytes operand_pairs
 spell_operands [] p m memory bytes e = ([], (nil_from_length bytes e, refl))
 spell_operands (s ∷ rest) p m memory bytes e =
     let w : ℕ = immediate_width s in
@@ -62,17 +74,20 @@ spell_operands (s ∷ rest) p m memory bytes e =
 none_left : (sib : Option ℕ) (disp : List ℕ) → one_if (is_some sib) ≡ 0 → length disp ≡ 0 → option_bytes sib ++ disp ≡ []
 none_left sib disp e h = let none = nil_from_length disp h in grind arith
 
-spell_memory : (p : Prefixes) (m : ℕ) (sib : Option ℕ) (disp : List ℕ) → one_if (is_some sib) ≡ sib_width m → length disp ≡ displacement_length m sib → (memory : Option Raw) × SpellsMemory p m (option_bytes sib ++ disp) memory
+spell_memory : (p : Prefixes) (m : ℕ) (sib : Option ℕ) (disp : List ℕ) → one_if (is_some sib) ≡ sib_width m →
+    length disp ≡ displacement_length m sib → (memory : Option Raw) × SpellsMemory p m (option_bytes sib ++ disp) memory
 spell_memory p m sib disp e h = by (is_memory m) refl e h
   where
-    by : (t : Bool) → is_memory m ≡ t → one_if (is_some sib) ≡ one_if (t && rm_field m == 4) → length disp ≡ (if t then displacement_width m sib else 0) → (memory : Option Raw) × SpellsMemory p m (option_bytes sib ++ disp) memory
+    by : (t : Bool) → is_memory m ≡ t → one_if (is_some sib) ≡ one_if (t && rm_field m == 4) →
+        length disp ≡ (if t then displacement_width m sib else 0) → (memory : Option Raw) × SpellsMemory p m (option_bytes sib ++ disp) memory
     by true is e h = (
       Some (record { rex_b = has_b p; rex_x = has_x p; address_size = p.address_size; modrm = m; sib = sib; disp = signed_by (displacement_width m sib) disp }),
       (is, record { sib = sib; disp = disp; spelled = refl; sib_present = grind (arith, e); disp_length = h; fields = refl }),
     )
     by false is e h = (None, (is, none_left sib disp e h))
 
-named_by : (v : Verdict) (opcode : ℕ) (suffix : Option ℕ) → is_refusal v ≡ false → refuses_suffix v suffix ≡ false → one_if (is_some suffix) ≡ one_if (uses_suffix v) → (o : ℕ) × (opcode_by v opcode (option_bytes suffix) ≡ Some o)
+named_by : (v : Verdict) (opcode : ℕ) (suffix : Option ℕ) → is_refusal v ≡ false → refuses_suffix v suffix ≡ false →
+    one_if (is_some suffix) ≡ one_if (uses_suffix v) → (o : ℕ) × (opcode_by v opcode (option_bytes suffix) ≡ Some o)
 named_by Accepts opcode suffix a h e = (opcode, refl)
 named_by NamedBySuffix opcode (Some b) a h e = some_is (suffix_opcode b) h
 named_by NamedBySuffix opcode None a h e = absurd (omega (arith, e))
@@ -80,7 +95,8 @@ named_by (Refuses fault moment) opcode suffix a h e = absurd cc
 
 -- The parts of fields after the opcode byte are the pieces of a row.
 abbrev pub HoldsFields : (r : RowRecord) (p : Prefixes) (tail : List ℕ) (reading : Reading) → fields.Fields → SpellsRow r p tail reading → Type 0
-HoldsFields r p tail reading f a = HoldsPieces r p tail reading a (option_bytes f.modrm) (option_bytes f.sib) f.displacement.items f.immediate.items (option_bytes f.suffix)
+HoldsFields r p tail reading f a = HoldsPieces r p tail reading a (option_bytes f.modrm)
+    (option_bytes f.sib) f.displacement.items f.immediate.items (option_bytes f.suffix)
 
 pub record SpellsFields (r : RowRecord) (p : Prefixes) (f : fields.Fields) : Type 0 where
   pub reading : Reading
@@ -140,7 +156,8 @@ module _ (r : RowRecord) (p : Prefixes) (f : fields.Fields) where
 names_suffix : (v : Verdict) (opcode o : ℕ) (suffix : Option ℕ) → opcode_by v opcode (option_bytes suffix) ≡ Some o → refuses_suffix v suffix ≡ false
 names_suffix v opcode o suffix h = grind arith
 
-module _ {r : RowRecord} {p : Prefixes} {tail : List ℕ} {reading : Reading} (f : fields.Fields) (a : SpellsRow r p tail reading) (h : HoldsFields r p tail reading f a) where
+module _ {r : RowRecord} {p : Prefixes} {tail : List ℕ} {reading : Reading} (f : fields.Fields) (a : SpellsRow r p tail reading)
+    (h : HoldsFields r p tail reading f a) where
   abbrev at : ℕ
   at = modrm_of r.modrm (option_bytes f.modrm)
 
@@ -162,7 +179,9 @@ module _ {r : RowRecord} {p : Prefixes} {tail : List ℕ} {reading : Reading} (f
   row_parts =
       let modrm : one_if (is_some f.modrm) ≡ one_if (uses_modrm r.modrm) = cc (option_count f.modrm, h.modrm, a.modrm_length, use_width r.modrm) in
       let sib : one_if (is_some f.sib) ≡ sib_width at = cc (option_count f.sib, h.sib, same_at) in
-      let displacement : length f.displacement.items ≡ displacement_length at f.sib = cc (displacement_long a (option_bytes f.sib) f.displacement.items h.address h.sib, first_of f.sib, same_at) in
+      let displacement : length f.displacement.items ≡ displacement_length at f.sib =
+      cc (displacement_long a (option_bytes f.sib) f.displacement.items h.address h.sib, first_of f.sib, same_at) in
       let immediate : length f.immediate.items ≡ immediates_width (r.plan at).encodings = cc (h.immediate, immediates_long a, same_at) in
-      let suffix : one_if (is_some f.suffix) ≡ one_if (uses_suffix (r.plan at).verdict) = cc (option_count f.suffix, h.suffix, a.tail_spelled.pieces.suffix_length, verdict_width (r.plan (modrm_of r.modrm a.modrm)).verdict, same_at) in
+      let suffix : one_if (is_some f.suffix) ≡ one_if (uses_suffix (r.plan at).verdict) =
+      cc (option_count f.suffix, h.suffix, a.tail_spelled.pieces.suffix_length, verdict_width (r.plan (modrm_of r.modrm a.modrm)).verdict, same_at) in
       (tests_five _ _ _ _ _ _ _ _ _ _).1 (modrm, sib, displacement, immediate, suffix)

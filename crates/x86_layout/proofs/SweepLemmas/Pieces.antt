@@ -16,14 +16,16 @@ module _ (strict : Bool) (fit : (xs : List ℕ) → 0 < length xs → (0 < size 
   some_bytes place [] c cs e = absurd (cc (none_left strict place [] refl, e))
   some_bytes place (x ∷ xs) c cs e = omega arith
 
-  next : (place : ℕ) (xs : List ℕ) → 0 < length xs → cuts_from strict place xs ≡ cut_at strict place xs ∷ cuts_from strict (place + size strict xs) (drop (size strict xs) xs)
+  next : (place : ℕ) (xs : List ℕ) → 0 < length xs → cuts_from strict place xs ≡ cut_at strict place xs ∷
+      cuts_from strict (place + size strict xs) (drop (size strict xs) xs)
   next place xs some = first_and_rest strict (size strict xs) place xs refl (fit xs some).0 some
 
   -- the first cut is the head of the list, and the rest its tail
   divided : (place : ℕ) (xs : List ℕ) (c : Cut) (cs : List Cut) → cuts_from strict place xs ≡ c ∷ cs →
       (cut_at strict place xs ≡ c) × (cuts_from strict (place + size strict xs) (drop (size strict xs) xs) ≡ cs)
   divided place xs c cs e =
-      let both : cut_at strict place xs ∷ cuts_from strict (place + size strict xs) (drop (size strict xs) xs) ≡ c ∷ cs = sym (next place xs (some_bytes place xs c cs e)) ∙ e in
+      let both : cut_at strict place xs ∷ cuts_from strict (place + size strict xs) (drop (size strict xs) xs) ≡ c ∷ cs =
+      sym (next place xs (some_bytes place xs c cs e)) ∙ e in
       (cc, cc)
 
   moved : (place n m : ℕ) (xs : List ℕ) → cuts_from strict ((place + n) + m) (drop m (drop n xs)) ≡ cuts_from strict (place + (n + m)) (drop (n + m) xs)
@@ -40,7 +42,8 @@ module _ (strict : Bool) (fit : (xs : List ℕ) → 0 < length xs → (0 < size 
       cc (rest, moved place (size strict xs) (total_length cs) xs, long)
 
   -- cuts that follow others begin where these end
-  begins : (place : ℕ) (xs : List ℕ) (before after : List Cut) (c : Cut) → cuts_from strict place xs ≡ before ++ c ∷ after → place + total_length before ≡ c.place
+  begins : (place : ℕ) (xs : List ℕ) (before after : List Cut) (c : Cut) → cuts_from strict place xs ≡ before ++ c ∷ after →
+      place + total_length before ≡ c.place
   begins place xs before after c e =
       let n : ℕ = total_length before in
       ap (λ c. c.place) (divided (place + n) (drop n xs) c after (sym (go_on place xs before (c ∷ after) e))).0

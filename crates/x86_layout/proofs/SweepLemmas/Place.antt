@@ -1,5 +1,6 @@
 -- The cuts after a cut, where cuts begin and end, and the marks at their places.
-use Rattle.std.proofs.Common.{◌≡◌, ℕ, zero, suc, ◌+◌, ◌-◌, ◌<◌, ◌≤◌, Bool, List, [], ◌∷◌, length, drop, refl, ap, ◌∙◌, arith, ◌&&◌, not, nat_lt, false, inl, inr, Ok, subst, ◌==◌, ◌||◌, true, slice_index_or, slice_set}
+use Rattle.std.proofs.Common.{◌≡◌, ℕ, zero, suc, ◌+◌, ◌-◌, ◌<◌, ◌≤◌, Bool, List, [], ◌∷◌, length, drop, refl, ap, ◌∙◌, arith, ◌&&◌, not}
+use Rattle.std.proofs.Common.{nat_lt, false, inl, inr, Ok, subst, ◌==◌, ◌||◌, true, slice_index_or, slice_set}
 use Rattle.std.proofs.lemmas.List.{nil_from_length, get_or-set_same, get_or-set_other}
 use Rattle.x86_decode.specs.Answer.{answer_of}
 use Rattle.x86_layout.specs.Sweeps.Cuts.{cut_length, cut_at, cuts_skipping, cuts_from}
@@ -24,7 +25,8 @@ module _ (strict : Bool) where
   passed (suc k) place (x ∷ xs) = passed k (place + 1) xs ∙ ap (λ p. cuts_skipping strict 0 p (drop k xs)) (omega arith)
 
   -- the first cut, and the cuts after it
-  pub first_and_rest : (n place : ℕ) (xs : List ℕ) → cut_length (answer_of strict xs) ≡ n → 0 < n → 0 < length xs → cuts_from strict place xs ≡ cut_at strict place xs ∷ cuts_from strict (place + n) (drop n xs)
+  pub first_and_rest : (n place : ℕ) (xs : List ℕ) → cut_length (answer_of strict xs) ≡ n → 0 < n → 0 < length xs →
+      cuts_from strict place xs ≡ cut_at strict place xs ∷ cuts_from strict (place + n) (drop n xs)
   unfolding cuts_skipping
   first_and_rest n place [] e some h = absurd (omega arith)
   first_and_rest zero place (x ∷ xs) e some h = absurd (omega arith)
@@ -64,14 +66,16 @@ module _ (strict : Bool) (lengths : Lengths strict) where
   within zero place (x ∷ xs) =
       let n : ℕ = cut_length (answer_of strict (x ∷ xs)) in
       let fit = fits (x ∷ xs) (omega arith) in
-      All-cons (IsWithin (place + suc (length xs))) (cut_at strict place (x ∷ xs)) (cuts_skipping strict (n - 1) (place + 1) xs) (fit.0, let long : n ≤ suc (length xs) = fit.1 in omega arith)
+      All-cons (IsWithin (place + suc (length xs))) (cut_at strict place (x ∷ xs)) (cuts_skipping strict (n - 1) (place + 1) xs)
+      (fit.0, let long : n ≤ suc (length xs) = fit.1 in omega arith)
       (rw (← one_more place (length xs)) (within (n - 1) (place + 1) xs))
   within (suc k) place (x ∷ xs) = rw (← one_more place (length xs)) (within k (place + 1) xs)
 
   -- ---- indices
 
   -- what no cut at a place or after it is
-  none_from : (test : Cut → Bool) (skip place : ℕ) (xs : List ℕ) → ((c : Cut) → place ≤ c.place → test c ≡ false) → list_any test (cuts_skipping strict skip place xs) ≡ false
+  none_from : (test : Cut → Bool) (skip place : ℕ) (xs : List ℕ) → ((c : Cut) → place ≤ c.place → test c ≡ false) →
+      list_any test (cuts_skipping strict skip place xs) ≡ false
   unfolding cuts_skipping
   none_from test skip place [] none = refl
   none_from test zero place (x ∷ xs) none =
@@ -80,7 +84,9 @@ module _ (strict : Bool) (lengths : Lengths strict) where
   none_from test (suc k) place (x ∷ xs) none = none_from test k (place + 1) xs (λ c h. none c (omega arith))
 
   -- a place after the cut before is that of a cut, or inside one
-  begins_by : (skip place p : ℕ) (xs : List ℕ) → place ≤ p → p < place + length xs → list_any (begins_at p) (cuts_skipping strict skip place xs) ≡ (not (nat_lt p (place + skip)) && not (list_any (is_inside p) (cuts_skipping strict skip place xs)))
+  begins_by : (skip place p : ℕ) (xs : List ℕ) → place ≤ p → p < place + length xs →
+      list_any (begins_at p) (cuts_skipping strict skip place xs) ≡
+      (not (nat_lt p (place + skip)) && not (list_any (is_inside p) (cuts_skipping strict skip place xs)))
   unfolding cuts_skipping
   begins_by skip place p [] h k = absurd (omega arith)
   begins_by zero place p (x ∷ xs) h k = elim (cases_lt place p) [
@@ -99,7 +105,8 @@ module _ (strict : Bool) (lengths : Lengths strict) where
   ]
 
   -- a place of the bytes is that of a cut, or inside one
-  pub begins_or_inside : (p : ℕ) (xs : List ℕ) → p < length xs → list_any (begins_at p) (cuts_from strict 0 xs) ≡ not (list_any (is_inside p) (cuts_from strict 0 xs))
+  pub begins_or_inside : (p : ℕ) (xs : List ℕ) → p < length xs →
+      list_any (begins_at p) (cuts_from strict 0 xs) ≡ not (list_any (is_inside p) (cuts_from strict 0 xs))
   begins_or_inside p xs h = let h = begins_by 0 0 p xs (omega arith) (omega arith) in grind (arith, nat_tests)
 
   pub all_within : (xs : List ℕ) → All (IsWithin (length xs)) (cuts_from strict 0 xs)
@@ -121,7 +128,8 @@ module _ (strict : Bool) (lengths : Lengths strict) where
 
 -- ---- marks after one of them is changed
 
-pub marked : (marks : List Bool) (place p : ℕ) → place < length marks → slice_index_or (slice_set marks place true) p false ≡ (slice_index_or marks p false || place == p)
+pub marked : (marks : List Bool) (place p : ℕ) → place < length marks →
+    slice_index_or (slice_set marks place true) p false ≡ (slice_index_or marks p false || place == p)
 marked marks place p h = grind (arith, nat_tests, get_or-set_same, get_or-set_other)
 
 -- ---- one cut further

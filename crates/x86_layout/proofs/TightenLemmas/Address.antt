@@ -1,5 +1,6 @@
 -- The bytes of raw fields, and the raw fields of bytes.
-use Rattle.std.proofs.Common.{◌≡◌, ℕ, suc, ◌-◌, ◌%◌, ◌^◌, ◌<◌, ◌==◌, Bool, true, false, if◌then◌else◌, Option, Some, None, List, [], ◌∷◌, ◌++◌, length, take, ℤ, pos, negsuc, refl, sym, ap, subst, ◌∙◌, arith, length-append, FitsSigned}
+use Rattle.std.proofs.Common.{◌≡◌, ℕ, suc, ◌-◌, ◌%◌, ◌^◌, ◌<◌, ◌==◌, Bool, true, false, if◌then◌else◌, Option, Some, None, List, [], ◌∷◌}
+use Rattle.std.proofs.Common.{◌++◌, length, take, ℤ, pos, negsuc, refl, sym, ap, subst, ◌∙◌, arith, length-append, FitsSigned}
 use Rattle.std.specs.Int.{w8, w32, cast_signed, cast_unsigned, from_le_bytes, to_le_bytes}
 use Rattle.std.proofs.lemmas.Bool.{and_parts}
 use Rattle.std.proofs.lemmas.Bool.Decides.{nat_tests}
@@ -54,10 +55,12 @@ address_long p m address raw h =
 -- ---- the bytes of raw fields spell them
 
 byte_back : (d : ℤ) → is_byte d ≡ true → cast_signed w8 (cast_unsigned w32 d % 256) ≡ d
-byte_back (pos n) e = let small : n < 128 = grind (arith, nat_tests) in ap (cast_signed w8) (let f : n % 256 ≡ n = omega (arith, small) in f) ∙ to_z_pos w8 n small
+byte_back (pos n) e = let small : n < 128 = grind (arith, nat_tests) in
+    ap (cast_signed w8) (let f : n % 256 ≡ n = omega (arith, small) in f) ∙ to_z_pos w8 n small
 byte_back (negsuc n) e =
     let small : n < 128 = grind (arith, nat_tests) in
-    ap (cast_signed w8) (let f : (2 ^ 32 - suc n) % 256 ≡ 256 - suc n = omega (arith, small) in f) ∙ to_z-of_z w8 (negsuc n) (record { sfits = omega (arith, small) })
+    ap (cast_signed w8) (let f : (2 ^ 32 - suc n) % 256 ≡ 256 - suc n = omega (arith, small) in f)
+    ∙ to_z-of_z w8 (negsuc n) (record { sfits = omega (arith, small) })
 
 unsigned_small : (d : ℤ) → FitsSigned w32 d → cast_unsigned w32 d < 2 ^ 32
 unsigned_small (pos n) f = let g = f.sfits in omega (arith, g)
@@ -72,7 +75,8 @@ Lowest width d = take width (to_le_bytes w32 (cast_unsigned w32 d))
 four_back : (d : ℤ) → FitsSigned w32 d → cast_signed w32 (from_le_bytes w32 (to_le_bytes w32 (cast_unsigned w32 d))) ≡ d
 four_back d f = ap (cast_signed w32) (from_le_bytes-to_le_bytes_4 (cast_unsigned w32 d) (unsigned_small d f)) ∙ to_z-of_z w32 d f
 
-signed_back : (one two none : Bool) (d : ℤ) → disp_fits (Width one two none) d ≡ true → FitsSigned w32 d → signed_by (Width one two none) (Lowest (Width one two none) d) ≡ d
+signed_back : (one two none : Bool) (d : ℤ) → disp_fits (Width one two none) d ≡ true → FitsSigned w32 d →
+    signed_by (Width one two none) (Lowest (Width one two none) d) ≡ d
 signed_back one two none d e f = let byte = byte_back d in let four = four_back d f in grind (arith, nat_tests)
 
 lowest_long_by : (one two none : Bool) (d : ℤ) → length (Lowest (Width one two none) d) ≡ Width one two none
@@ -82,7 +86,8 @@ displacement_long : (raw : Raw) → length (spelled_displacement raw) ≡ displa
 displacement_long raw = lowest_long_by (mod_field raw.modrm == 1) (mod_field raw.modrm == 2) (names_no_base raw.modrm raw.sib) raw.disp
 
 -- the bytes of raw fields spell them, under prefixes with their bits
-pub respells : (q : Prefixes) (raw : Raw) → IsOfBytes raw → has_b q ≡ raw.rex_b → has_x q ≡ raw.rex_x → q.address_size ≡ raw.address_size → SpellsMemory q raw.modrm (address_bytes raw) (Some raw)
+pub respells : (q : Prefixes) (raw : Raw) → IsOfBytes raw → has_b q ≡ raw.rex_b → has_x q ≡ raw.rex_x → q.address_size ≡ raw.address_size →
+    SpellsMemory q raw.modrm (address_bytes raw) (Some raw)
 respells q raw h b x short =
     let memory = and_parts (is_memory raw.modrm) _ h.fit in
     let fit = and_parts (sib_fits raw.modrm raw.sib) _ memory.1 in
@@ -104,5 +109,6 @@ address_bytes_long raw = let long = length-append (option_bytes raw.sib) (spelle
 
 -- ---- the bits of a REX
 
-pub bits_with : (x b : Bool) (rex : Option PrefixRex) → (rex ≡ None → (b ≡ false) × (x ≡ false)) → (live_bit (λ r. r.b) (bits_in x b rex) ≡ b) × (live_bit (λ r. r.x) (bits_in x b rex) ≡ x)
+pub bits_with : (x b : Bool) (rex : Option PrefixRex) → (rex ≡ None → (b ≡ false) × (x ≡ false)) →
+    (live_bit (λ r. r.b) (bits_in x b rex) ≡ b) × (live_bit (λ r. r.x) (bits_in x b rex) ≡ x)
 bits_with x b rex h = (grind arith, grind arith)

@@ -42,7 +42,8 @@ module _ (x b : Bool) (p : Prefixes) (m : ℕ) (mm : is_memory m ≡ true) where
   fault_bits r f = refl
 
   -- what goes not by these bits of a REX is the same with and without one
-  with_bits : {A : Type 0} (f : Prefixes → A) → ((r : PrefixRex) → f (With (Some (record r { x = x; b = b }))) ≡ f (With (Some r))) → (rex : Option PrefixRex) → f (With (bits_in x b rex)) ≡ f (With rex)
+  with_bits : {A : Type 0} (f : Prefixes → A) → ((r : PrefixRex) → f (With (Some (record r { x = x; b = b }))) ≡ f (With (Some r))) →
+      (rex : Option PrefixRex) → f (With (bits_in x b rex)) ≡ f (With rex)
   with_bits f h None = refl
   with_bits f h (Some r) = h r
 
@@ -51,12 +52,20 @@ module _ (x b : Bool) (p : Prefixes) (m : ℕ) (mm : is_memory m ≡ true) where
 abbrev By : Bool → TableRow → Bool → Prefixes → RowRecord
 By strict row group p = if group then group_record strict row p else form_record row p
 
-module _ (strict : Bool) (row : TableRow) (p : Prefixes) (x b : Bool) (m n : ℕ) (mm : is_memory m ≡ true) (nm : is_memory n ≡ true) (same : reg_field n ≡ reg_field m) where
+module _ (strict : Bool) (row : TableRow) (p : Prefixes) (x b : Bool) (m n : ℕ) (mm : is_memory m ≡ true) (nm : is_memory n ≡ true)
+    (same : reg_field n ≡ reg_field m) where
   abbrev pub Other : Prefixes
   Other = record p { rex = bits_in x b p.rex }
 
   same_prefixes : SamePrefixes Other p
-  same_prefixes = record { f2 = refl; f3 = refl; operand_size = refl; address_size = refl; w = with_bits x b p m mm has_w (λ r. refl) p.rex; r = with_bits x b p m mm has_r (λ r. refl) p.rex }
+  same_prefixes = record {
+    f2 = refl;
+    f3 = refl;
+    operand_size = refl;
+    address_size = refl;
+    w = with_bits x b p m mm has_w (λ r. refl) p.rex;
+    r = with_bits x b p m mm has_r (λ r. refl) p.rex;
+  }
 
   by_plan : (group : Bool) → (By strict row group p).modrm ≡ EitherForm → (By strict row group Other).plan n ≡ (By strict row group p).plan m
   unfolding group_record group_plan form_record form_plan
@@ -90,10 +99,12 @@ settled_is s n p = grind arith
 settled_free : (s : OperandEncoding) (n : ℕ) (p : Prefixes) → rm_free_encoding (settled s n p) ≡ rm_free_encoding s
 settled_free s n p = grind arith
 
-any_settled : (operands : OperandEncodings) (n : ℕ) (p : Prefixes) → list_any is_modrm_encoding (list_of (all_settled operands n p)) ≡ list_any is_modrm_encoding (list_of operands)
+any_settled : (operands : OperandEncodings) (n : ℕ) (p : Prefixes) →
+    list_any is_modrm_encoding (list_of (all_settled operands n p)) ≡ list_any is_modrm_encoding (list_of operands)
 any_settled operands n p = grind (arith, settled_is)
 
-all_free : (operands : OperandEncodings) (n : ℕ) (p : Prefixes) → list_all rm_free_encoding (list_of (all_settled operands n p)) ≡ list_all rm_free_encoding (list_of operands)
+all_free : (operands : OperandEncodings) (n : ℕ) (p : Prefixes) →
+    list_all rm_free_encoding (list_of (all_settled operands n p)) ≡ list_all rm_free_encoding (list_of operands)
 all_free operands n p = grind (arith, settled_free)
 
 module _ (own : TableRow) (p : Prefixes) (m : ℕ) where
@@ -112,17 +123,23 @@ module _ (own : TableRow) (p : Prefixes) (m : ℕ) where
 module _ (strict : Bool) (row : TableRow) (p : Prefixes) (m : ℕ) (mm : is_memory m ≡ true) where
   by_kind : (group : Bool) → (By strict row group p).modrm ≡ EitherForm → writes ((By strict row group p).plan m) ≡ true
   unfolding group_record group_plan form_record form_plan
-  by_kind true usage = chosen_writes row p m (choose (group_rows row.form) row strict p m) (first_in_memory (group_rows row.form) row strict p m (group_facts.rows_keep_reg row.form) mm)
-  by_kind false usage = chosen_writes row p m (choose (form_rows row.form) row false p m) (first_in_memory (form_rows row.form) row false p m (form_facts.rows_keep_reg row.form usage) mm)
+  by_kind true usage = chosen_writes row p m (choose (group_rows row.form) row strict p m)
+      (first_in_memory (group_rows row.form) row strict p m (group_facts.rows_keep_reg row.form) mm)
+  by_kind false usage = chosen_writes row p m (choose (form_rows row.form) row false p m)
+      (first_in_memory (form_rows row.form) row false p m (form_facts.rows_keep_reg row.form usage) mm)
 
-  free_by_kind : (group : Bool) → (By strict row group p).modrm ≡ EitherForm → list_all rm_free_encoding (list_of ((By strict row group p).plan m).encodings) ≡ true
+  free_by_kind : (group : Bool) → (By strict row group p).modrm ≡ EitherForm →
+      list_all rm_free_encoding (list_of ((By strict row group p).plan m).encodings) ≡ true
   unfolding group_record group_plan form_record form_plan
-  free_by_kind true usage = chosen_free row p m (choose (group_rows row.form) row strict p m) (first_in_memory (group_rows row.form) row strict p m (group_facts.rows_keep_reg row.form) mm)
-  free_by_kind false usage = chosen_free row p m (choose (form_rows row.form) row false p m) (first_in_memory (form_rows row.form) row false p m (form_facts.rows_keep_reg row.form usage) mm)
+  free_by_kind true usage = chosen_free row p m (choose (group_rows row.form) row strict p m)
+      (first_in_memory (group_rows row.form) row strict p m (group_facts.rows_keep_reg row.form) mm)
+  free_by_kind false usage = chosen_free row p m (choose (form_rows row.form) row false p m)
+      (first_in_memory (form_rows row.form) row false p m (form_facts.rows_keep_reg row.form usage) mm)
 
   -- the operands go neither by rm nor by X or B
   pub row_is_free : (record_of strict row p).modrm ≡ EitherForm → list_all rm_free_encoding (list_of ((record_of strict row p).plan m).encodings) ≡ true
   row_is_free usage = free_by_kind (is_group row.form) usage
 
-  pub row_writes : (record_of strict row p).modrm ≡ EitherForm → is_refusal ((record_of strict row p).plan m).verdict ≡ false → list_any is_modrm_encoding (list_of ((record_of strict row p).plan m).encodings) ≡ true
+  pub row_writes : (record_of strict row p).modrm ≡ EitherForm → is_refusal ((record_of strict row p).plan m).verdict ≡ false →
+      list_any is_modrm_encoding (list_of ((record_of strict row p).plan m).encodings) ≡ true
   row_writes usage accepted = cc (by_kind (is_group row.form) usage, accepted)

@@ -12,7 +12,10 @@ use Rattle.x86_layout.specs.declared.tightening.registers.Scale.{Scale}
 
 -- ---- no fields that fit have fewer bytes
 
-pub least : (d : ℤ) (raw : Raw) (sib : Option ℕ) → (is_memory raw.modrm && (sib_fits raw.modrm sib && disp_fits (displacement_width raw.modrm sib) d)) ≡ true → is_ip_by raw.modrm sib ≡ false → bytes_by d (number_of (base_by raw sib)) (number_of (index_by raw sib)) ≤ (if is_some sib then 1 else 0) + displacement_width raw.modrm sib
+pub least : (d : ℤ) (raw : Raw) (sib : Option ℕ) →
+    (is_memory raw.modrm && (sib_fits raw.modrm sib && disp_fits (displacement_width raw.modrm sib) d)) ≡ true →
+    is_ip_by raw.modrm sib ≡ false → bytes_by d (number_of (base_by raw sib)) (number_of (index_by raw sib)) ≤
+    (if is_some sib then 1 else 0) + displacement_width raw.modrm sib
 least d raw sib h e = grind (arith, nat_tests)
 
 -- ---- registers that may be there
@@ -25,7 +28,8 @@ index_number raw sib = grind (arith, nat_tests)
 
 -- ---- the address form
 
-pub base_counts : (raw : Raw) (sib : Option ℕ) (r : ℕ) → is_ip_by raw.modrm sib ≡ false → adds_to (base_by raw sib) 1 r ≡ part_weight (number_of (base_by raw sib)) 1 r
+pub base_counts : (raw : Raw) (sib : Option ℕ) (r : ℕ) → is_ip_by raw.modrm sib ≡ false →
+    adds_to (base_by raw sib) 1 r ≡ part_weight (number_of (base_by raw sib)) 1 r
 base_counts raw sib r e = grind (arith, nat_tests)
 
 pub scale_is : (scale : ℕ) → scale < 4 → 2 ^ scale ≡ times (scale_named (2 ^ scale))
@@ -35,7 +39,8 @@ scale_is (suc (suc zero)) h = refl
 scale_is (suc (suc (suc zero))) h = refl
 scale_is (suc (suc (suc (suc n)))) h = absurd (omega (arith, h))
 
-pub index_counts : (raw : Raw) (sib : Option ℕ) (r : ℕ) → IsByteOption sib → adds_to (index_by raw sib) (scale_by sib) r ≡ part_weight (number_of (index_by raw sib)) (times (scale_named (scale_by sib))) r
+pub index_counts : (raw : Raw) (sib : Option ℕ) (r : ℕ) → IsByteOption sib →
+    adds_to (index_by raw sib) (scale_by sib) r ≡ part_weight (number_of (index_by raw sib)) (times (scale_named (scale_by sib))) r
 index_counts raw None r h = refl
 index_counts raw (Some sib) r h = let e = scale_is (scale_field sib) (omega (arith, h)) in grind (arith, nat_tests, e)
 
@@ -66,10 +71,12 @@ module _ (d : ℤ) (m : ℕ) (below : m < 8) where
   pub spelled_length : (b i : Option ℕ) (s : Scale) → (if is_some (Sib b i s) then 1 else 0) + displacement_width (Modrm b i) (Sib b i s) ≡ bytes_by d b i
   spelled_length b i s = rw (spelled_width b i s) (grind arith)
 
-  pub spelled_fits : (b i : Option ℕ) (s : Scale) → (is_memory (Modrm b i) && (sib_fits (Modrm b i) (Sib b i s) && disp_fits (displacement_width (Modrm b i) (Sib b i s)) d)) ≡ true
+  pub spelled_fits : (b i : Option ℕ) (s : Scale) →
+      (is_memory (Modrm b i) && (sib_fits (Modrm b i) (Sib b i s) && disp_fits (displacement_width (Modrm b i) (Sib b i s)) d)) ≡ true
   spelled_fits b i s = grind (arith, nat_tests)
 
-  pub spelled_base : (raw : Raw) (b i : Option ℕ) (s : Scale) → raw.rex_b ≡ fourth_bit b → raw.modrm ≡ Modrm b i → IsBelow16 b → number_of (base_by raw (Sib b i s)) ≡ b
+  pub spelled_base : (raw : Raw) (b i : Option ℕ) (s : Scale) → raw.rex_b ≡ fourth_bit b → raw.modrm ≡ Modrm b i → IsBelow16 b →
+      number_of (base_by raw (Sib b i s)) ≡ b
   spelled_base raw b i s p q h = grind (arith, nat_tests)
 
   pub spelled_index : (raw : Raw) (b i : Option ℕ) (s : Scale) → raw.rex_x ≡ fourth_bit i → IsIndex i → number_of (index_by raw (Sib b i s)) ≡ i

@@ -1,5 +1,6 @@
 -- Where mod isn't looked at, as in moves from and to control and debug registers, no operand is memory.
-use Rattle.std.proofs.Common.{◌≡◌, ℕ, zero, suc, ◌<◌, Bool, true, false, if◌then◌else◌, nat_lt, Option, Some, None, List, [], ◌∷◌, slice_index_or, refl, sym, ap, ◌∙◌, arith}
+use Rattle.std.proofs.Common.{◌≡◌, ℕ, zero, suc, ◌<◌, Bool, true, false, if◌then◌else◌, nat_lt, Option, Some, None, List, [], ◌∷◌}
+use Rattle.std.proofs.Common.{slice_index_or, refl, sym, ap, ◌∙◌, arith}
 use Rattle.std.specs.List.{list_all}
 use Rattle.std.proofs.lemmas.Bool.{and_parts, cond_both}
 use Rattle.x86_fields.specs.declared.prefixes.Prefixes.{Prefixes}
@@ -38,7 +39,7 @@ use Rattle.x86_layout.proofs.TightenLemmas.Relative.{Row, Seen, Byte, uses_eithe
 
 -- a register of ModRM, whatever its mod
 abbrev is_register : OperandEncoding → Bool
-is_register (encoding.U w) = true
+is_register (encoding.E w) = true
 is_register encoding.Cr = true
 is_register encoding.Dr = true
 is_register s = false
@@ -49,7 +50,8 @@ AreRegisters operands = list_all is_register (list_of operands) ≡ true
 settled_is : (s : OperandEncoding) (n : ℕ) (p : Prefixes) → is_register (settled s n p) ≡ is_register s
 settled_is s n p = grind arith
 
-all_settled_are : (operands : OperandEncodings) (n : ℕ) (p : Prefixes) → list_all is_register (list_of (all_settled operands n p)) ≡ list_all is_register (list_of operands)
+all_settled_are : (operands : OperandEncodings) (n : ℕ) (p : Prefixes) →
+    list_all is_register (list_of (all_settled operands n p)) ≡ list_all is_register (list_of operands)
 all_settled_are operands n p = grind (arith, settled_is)
 
 abbrev has_registers : FormRow → Bool
@@ -69,9 +71,11 @@ no_plain [] e = cc
 no_plain (row ∷ rest) e = grind arith
 
 module _ (strict : Bool) (row : TableRow) (p : Prefixes) (m : ℕ) where
-  by_kind : (group : Bool) → (if group then group_record strict row p else form_record row p).modrm ≡ Registers → AreRegisters ((if group then group_record strict row p else form_record row p).plan m).encodings
+  by_kind : (group : Bool) → (if group then group_record strict row p else form_record row p).modrm ≡ Registers →
+      AreRegisters ((if group then group_record strict row p else form_record row p).plan m).encodings
   unfolding group_record group_plan form_record modrm_use
-  by_kind true e = chosen_has (λ chosen. AreRegisters (plan_of_row chosen row p m).encodings) has_registers row strict p m refl (λ chosen h there. all_settled_are chosen.operands (carried row.form) p ∙ h) (group_rows row.form) (rows_have_registers row.form e)
+  by_kind true e = chosen_has (λ chosen. AreRegisters (plan_of_row chosen row p m).encodings) has_registers row strict p m
+      refl (λ chosen h there. all_settled_are chosen.operands (carried row.form) p ∙ h) (group_rows row.form) (rows_have_registers row.form e)
   by_kind false e = absurd (no_plain (form_rows row.form) e)
 
 -- ---- their slots
@@ -79,12 +83,15 @@ module _ (strict : Bool) (row : TableRow) (p : Prefixes) (m : ℕ) where
 abbrev IsNoMemory : Slot → Type 0
 IsNoMemory slot = is_memory_slot slot ≡ false
 
-register_slots : (encodings : List OperandEncoding) (p : Prefixes) (m : ℕ) (bytes : List ℕ) (pairs : List (Slot × Operand)) → list_all is_register encodings ≡ true → SpellsOperands encodings p m None bytes pairs → (k : ℕ) → IsNoMemory (pair_at pairs k).0
+register_slots : (encodings : List OperandEncoding) (p : Prefixes) (m : ℕ) (bytes : List ℕ) (pairs : List (Slot × Operand)) →
+    list_all is_register encodings ≡ true → SpellsOperands encodings p m None bytes pairs → (k : ℕ) → IsNoMemory (pair_at pairs k).0
 register_slots [] p m bytes pairs all h k = rw h.1 refl
 register_slots (s ∷ rest) p m bytes pairs all h zero = rw h.yields (let first = (and_parts (is_register s) _ all).0 in grind arith)
-register_slots (s ∷ rest) p m bytes pairs all h (suc k) = rw h.yields (register_slots rest p m h.tail h.others (and_parts (is_register s) _ all).1 h.tail_spelled k)
+register_slots (s ∷ rest) p m bytes pairs all h (suc k) =
+    rw h.yields (register_slots rest p m h.tail h.others (and_parts (is_register s) _ all).1 h.tail_spelled k)
 
-one_of_four : (a b c d : Slot) → IsNoMemory a → IsNoMemory b → IsNoMemory c → IsNoMemory d → (k : ℕ) → IsNoMemory (slice_index_or (a ∷ b ∷ c ∷ d ∷ []) k slots.Nothing)
+one_of_four : (a b c d : Slot) → IsNoMemory a → IsNoMemory b → IsNoMemory c → IsNoMemory d → (k : ℕ) →
+    IsNoMemory (slice_index_or (a ∷ b ∷ c ∷ d ∷ []) k slots.Nothing)
 one_of_four a b c d ha hb hc hd zero = ha
 one_of_four a b c d ha hb hc hd (suc zero) = hb
 one_of_four a b c d ha hb hc hd (suc (suc zero)) = hc
@@ -108,4 +115,5 @@ module _ {strict : Bool} {s : List ℕ} {a : Instruction} (is : IsSentence (rows
       let four : is.reading.slots ≡ (pair_at pairs 0).0 ∷ (pair_at pairs 1).0 ∷ (pair_at pairs 2).0 ∷ (pair_at pairs 3).0 ∷ [] = ap (λ r. r.slots) t.yields in
       ap (λ i. is_memory_slot (slot_at i k)) is.yields
       ∙ cond_both (nat_lt k is.reading.count) (slice_index_or is.reading.slots k slots.Nothing) slots.Nothing IsNoMemory
-      (λ _. ap (λ l. is_memory_slot (slice_index_or l k slots.Nothing)) four ∙ one_of_four (pair_at pairs 0).0 (pair_at pairs 1).0 (pair_at pairs 2).0 (pair_at pairs 3).0 (each 0) (each 1) (each 2) (each 3) k) (λ _. refl)
+      (λ _. ap (λ l. is_memory_slot (slice_index_or l k slots.Nothing)) four
+      ∙ one_of_four (pair_at pairs 0).0 (pair_at pairs 1).0 (pair_at pairs 2).0 (pair_at pairs 3).0 (each 0) (each 1) (each 2) (each 3) k) (λ _. refl)

@@ -1,5 +1,6 @@
 -- An encoding with the shortest raw fields is a relative, and none is shorter.
-use Rattle.std.proofs.Common.{◌≡◌, ℕ, ◌+◌, ◌≤◌, Bool, true, false, Some, None, List, [], ◌∷◌, ◌++◌, length, map, refl, sym, ap, subst, ◌∙◌, arith, length-append}
+use Rattle.std.proofs.Common.{◌≡◌, ℕ, ◌+◌, ◌≤◌, Bool, true, false, Some, None, List, [], ◌∷◌, ◌++◌, length, map, refl, sym, ap, subst, ◌∙◌}
+use Rattle.std.proofs.Common.{arith, length-append}
 use Rattle.std.proofs.lemmas.Bool.Decides.{nat_tests}
 use Rattle.std.proofs.lemmas.List.{nil_from_length}
 use Rattle.x86_fields.specs.declared.prefixes.Prefixes.{Prefixes}
@@ -28,7 +29,8 @@ use Rattle.x86_layout.specs.Tightening.Tighten.{bits_in, run_with, address_bytes
 use Rattle.x86_layout.proofs.TightenLemmas.Rex.{run_stays, run_cleared, length_stays, seen_with, column_stays}
 use Rattle.x86_layout.proofs.TightenLemmas.PlanAlike.{same_record}
 use Rattle.x86_layout.proofs.TightenLemmas.Address.{of_bytes, address_long, respells, address_bytes_long, bits_with}
-use Rattle.x86_layout.proofs.TightenLemmas.Shortest.{shortest_is_of_bytes, shortest_has_the_address, shortest_keeps_reg, shortest_keeps_67, shortest_keeps_bits, none_is_shorter}
+use Rattle.x86_layout.proofs.TightenLemmas.Shortest.{shortest_is_of_bytes, shortest_has_the_address, shortest_keeps_reg, shortest_keeps_67}
+use Rattle.x86_layout.proofs.TightenLemmas.Shortest.{shortest_keeps_bits, none_is_shorter}
 use Rattle.x86_layout.proofs.TightenLemmas.Respell.{Rerowed, rerowed}
 
 -- ---- a memory form
@@ -93,7 +95,8 @@ module _ {strict : Bool} {s : List ℕ} {a : Reading} (v : Encoding strict s a) 
 
 -- ---- the relative
 
-no_bits : (raw : Raw) (p : Prefixes) → raw.rex_b ≡ has_b p → raw.rex_x ≡ has_x p → p.rex ≡ None → ((shortest raw).rex_b ≡ false) × ((shortest raw).rex_x ≡ false)
+no_bits : (raw : Raw) (p : Prefixes) → raw.rex_b ≡ has_b p → raw.rex_x ≡ has_x p → p.rex ≡ None → ((shortest raw).rex_b ≡ false)
+    × ((shortest raw).rex_x ≡ false)
 no_bits raw p b x none = shortest_keeps_bits raw (cc (b, none)) (cc (x, none))
 
 module _ {strict : Bool} {s : List ℕ} {a : Reading} (v : Encoding strict s a) {raw : Raw} (read : Reads v raw) (fit : IsOfBytes raw) where
@@ -107,7 +110,8 @@ module _ {strict : Bool} {s : List ℕ} {a : Reading} (v : Encoding strict s a) 
   Bits = record (Seen v) { rex = bits_in (Other).rex_x (Other).rex_b (Seen v).rex }
 
   abbrev Rerow : Prefixes → Type 0
-  Rerow q = Rerowed (Seen v) q (Byte v) (Other).modrm raw (Other) (record_of strict v.row q) (address_bytes (Other)) v.row_spelled.tail_spelled.pieces.immediates v.row_spelled.tail_spelled.pieces.suffix a
+  Rerow q = Rerowed (Seen v) q (Byte v) (Other).modrm raw (Other) (record_of strict v.row q)
+      (address_bytes (Other)) v.row_spelled.tail_spelled.pieces.immediates v.row_spelled.tail_spelled.pieces.suffix a
 
   respelled_raw : SpellsMemory (Bits) (Other).modrm (address_bytes (Other)) (Some (Other))
   respelled_raw =
@@ -183,7 +187,19 @@ module _ {strict : Bool} {s : List ℕ} {a : Reading} (v : Encoding strict s a) 
         let other = raw_of_bytes w to rel.address.new (bytes_of u bytes) in
         let fewer = none_is_shorter raw to fit other ip same in
         let new = length_is w to rel.address.new in
-        omega (arith, length-append {A = ℕ}, fewer, long, new, length_stays false false w.run, ap length rel.parts.prefixes, length_stays false false v.run, ap length rel.parts.escape, ap length rel.parts.immediate, ap length rel.parts.suffix)
+        omega (
+          arith,
+          length-append {A = ℕ},
+          fewer,
+          long,
+          new,
+          length_stays false false w.run,
+          ap length rel.parts.prefixes,
+          length_stays false false v.run,
+          ap length rel.parts.escape,
+          ap length rel.parts.immediate,
+          ap length rel.parts.suffix,
+        )
 
     pub shortest_relative : allows_lock a ≡ true → length s ≤ 15 → is_ip_relative raw ≡ false → IsShortest strict s a v t
     unfolding sentence

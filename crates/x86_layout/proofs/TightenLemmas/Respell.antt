@@ -24,7 +24,8 @@ unfolding shape
 is_shape raw = grind arith
 
 module _ (p q : Prefixes) (m n : ℕ) (raw other : Raw) where
-  same_kind : (s : OperandEncoding) (bytes : List ℕ) → is_memory_slot (operand_from s q n (Some other) bytes).0 ≡ is_memory_slot (operand_from s p m (Some raw) bytes).0
+  same_kind : (s : OperandEncoding) (bytes : List ℕ) →
+      is_memory_slot (operand_from s q n (Some other) bytes).0 ≡ is_memory_slot (operand_from s p m (Some raw) bytes).0
   same_kind s bytes = grind (arith, is_shape other, is_shape raw)
 
   -- the pairs of operands, where their immediates are the same
@@ -33,13 +34,22 @@ module _ (p q : Prefixes) (m n : ℕ) (raw other : Raw) where
     pub spelled : SpellsOperands encodings q n (Some other) bytes pairs
     pub first : is_memory_slot (pair_at pairs 0).0 ≡ is_memory_slot (pair_at operand_pairs 0).0
 
-  regiven : (encodings : List OperandEncoding) (bytes : List ℕ) (operand_pairs : List (Slot × Operand)) → SpellsOperands encodings p m (Some raw) bytes operand_pairs → Regiven encodings bytes operand_pairs
+  regiven : (encodings : List OperandEncoding) (bytes : List ℕ) (operand_pairs : List (Slot × Operand)) →
+      SpellsOperands encodings p m (Some raw) bytes operand_pairs → Regiven encodings bytes operand_pairs
   regiven [] bytes operand_pairs h = record { pairs = []; spelled = (h.0, refl); first = ap (λ l. is_memory_slot (pair_at l 0).0) (sym h.1) }
   regiven (s ∷ rest) bytes operand_pairs h =
       let following = regiven rest h.tail h.others h.tail_spelled in
       record {
         pairs = operand_from s q n (Some other) h.immediate ∷ following.pairs;
-        spelled = record { immediate = h.immediate; tail = h.tail; others = following.pairs; spelled = h.spelled; immediate_length = h.immediate_length; yields = refl; tail_spelled = following.spelled };
+        spelled = record {
+          immediate = h.immediate;
+          tail = h.tail;
+          others = following.pairs;
+          spelled = h.spelled;
+          immediate_length = h.immediate_length;
+          yields = refl;
+          tail_spelled = following.spelled;
+        };
         first = same_kind s h.immediate ∙ ap (λ l. is_memory_slot (pair_at l 0).0) (sym h.yields);
       }
 
@@ -58,7 +68,9 @@ module _ (p q : Prefixes) (m n : ℕ) (raw other : Raw) where
     pub last : row.tail_spelled.pieces.suffix ≡ suffix
     pub lock : allows_lock again ≡ allows_lock reading
 
-  pub rerowed : (r : RowRecord) (plan : Plan) (tail address : List ℕ) (reading : Reading) (h : SpellsTail plan p m tail reading) → p.lock ≡ q.lock → h.pieces.memory ≡ Some raw → is_memory n ≡ true → SpellsRaw q n address other → r.at_opcode ≡ None → r.modrm ≡ EitherForm → r.plan n ≡ plan → Rerowed r address h.pieces.immediates h.pieces.suffix reading
+  pub rerowed : (r : RowRecord) (plan : Plan) (tail address : List ℕ) (reading : Reading) (h : SpellsTail plan p m tail reading) →
+      p.lock ≡ q.lock → h.pieces.memory ≡ Some raw → is_memory n ≡ true → SpellsRaw q n address other → r.at_opcode ≡ None →
+      r.modrm ≡ EitherForm → r.plan n ≡ plan → Rerowed r address h.pieces.immediates h.pieces.suffix reading
   rerowed r plan tail address reading h same read memory spells passed usage planned =
       let s = h.pieces in
       let encodings = rw read at s.immediates_spelled in

@@ -38,7 +38,8 @@ module _ (x b : Bool) (kind : ℕ → Bool) (stays : (n : ℕ) → kind (byte_wi
 
 -- ---- the bits
 
-named_by : (x b t : Bool) (byte : ℕ) → is_rex byte ≡ t → is_rex (byte_with x b byte) ≡ t → rex_named (Some (byte_with x b byte)) ≡ bits_in x b (rex_named (Some byte))
+named_by : (x b t : Bool) (byte : ℕ) → is_rex byte ≡ t → is_rex (byte_with x b byte) ≡ t →
+    rex_named (Some (byte_with x b byte)) ≡ bits_in x b (rex_named (Some byte))
 named_by x b t byte e f = grind (arith, nat_tests)
 
 rex_stays : (x b : Bool) (run : List ℕ) → rex_named (last (run_with x b run)) ≡ bits_in x b (rex_named (last run))
@@ -101,7 +102,8 @@ module _ (m : Map) (opcode : ℕ) (p : Prefixes) where
   seen_other : (rex : Option PrefixRex) → seen_by m opcode (record p { rex = rex }) ≡ record (seen_by m opcode p) { rex = rex }
   seen_other rex = grind arith
 
-pub seen_with : (m : Map) (opcode : ℕ) (x b : Bool) (run : List ℕ) → seen_by m opcode (reading_of (run_with x b run)) ≡ record (seen_by m opcode (reading_of run)) { rex = bits_in x b (seen_by m opcode (reading_of run)).rex }
+pub seen_with : (m : Map) (opcode : ℕ) (x b : Bool) (run : List ℕ) →
+    seen_by m opcode (reading_of (run_with x b run)) ≡ record (seen_by m opcode (reading_of run)) { rex = bits_in x b (seen_by m opcode (reading_of run)).rex }
 seen_with m opcode x b run = let p = reading_of run in cc (reading_is x b run, seen_other m opcode p (bits_in x b p.rex), seen_rex m opcode p)
 
 pub column_stays : (x b : Bool) (run : List ℕ) → column_of (reading_of (run_with x b run)) ≡ column_of (reading_of run)

@@ -1,5 +1,6 @@
 -- A relative is the same instruction but for its memory operand of ModRM, which has the same address.
-use Rattle.std.proofs.Common.{◌≡◌, ◌↔◌, ℕ, zero, suc, ◌≤◌, ◌<◌, ◌^◌, nat_lt, Bool, true, false, if◌then◌else◌, Option, Some, None, List, [], ◌∷◌, length, map, slice_index_or, refl, sym, ap, ◌∙◌, arith, All, FitsSigned, w32, pow_mono}
+use Rattle.std.proofs.Common.{◌≡◌, ◌↔◌, ℕ, zero, suc, ◌≤◌, ◌<◌, ◌^◌, nat_lt, Bool, true, false, if◌then◌else◌, Option, Some, None, List, []}
+use Rattle.std.proofs.Common.{◌∷◌, length, map, slice_index_or, refl, sym, ap, ◌∙◌, arith, All, FitsSigned, w32, pow_mono, min}
 use Rattle.std.specs.List.{list_all}
 use Rattle.std.proofs.lemmas.Bool.{and_parts}
 use Rattle.x86_regs.specs.declared.RegisterClass.{RegisterClass}
@@ -78,15 +79,19 @@ module _ (from to : Raw) where
     same_pointer : pointer_class q ≡ pointer_class p
     same_pointer = let e = ap pointer_class alike in grind arith
 
-    sign_alike : (s : OperandEncoding) (bytes : List ℕ) → rm_free_encoding s ≡ true → IsSameOrShape from to (operand_from s p m (Some from) bytes) (operand_from s q n (Some to) bytes)
+    sign_alike : (s : OperandEncoding) (bytes : List ℕ) → rm_free_encoding s ≡ true →
+        IsSameOrShape from to (operand_from s p m (Some from) bytes) (operand_from s q n (Some to) bytes)
     sign_alike s bytes free = grind (arith, unchanged, shapes, same_register p q alike, same_number, same_width, same_pointer)
 
-    pairs_alike : (ss : List OperandEncoding) (bytes : List ℕ) (operand_pairs others : List (Slot × Operand)) → list_all rm_free_encoding ss ≡ true → SpellsOperands ss p m (Some from) bytes operand_pairs → SpellsOperands ss q n (Some to) bytes others → AlikePairs operand_pairs others
+    pairs_alike : (ss : List OperandEncoding) (bytes : List ℕ) (operand_pairs others : List (Slot × Operand)) →
+        list_all rm_free_encoding ss ≡ true → SpellsOperands ss p m (Some from) bytes operand_pairs →
+        SpellsOperands ss q n (Some to) bytes others → AlikePairs operand_pairs others
     pairs_alike [] bytes operand_pairs others free h g = rw (h.1, g.1) (record { count = refl; each = λ k. unchanged refl })
     pairs_alike (s ∷ rest) bytes operand_pairs others free h g =
         let parts = and_parts (rm_free_encoding s) (list_all rm_free_encoding rest) free in
         let same = halves h.immediate h.tail g.immediate g.tail (sym h.spelled ∙ g.spelled) (h.immediate_length ∙ sym g.immediate_length) in
-        let first : IsSameOrShape from to (operand_from s p m (Some from) h.immediate) (operand_from s q n (Some to) g.immediate) = rw (same.0) (sign_alike s g.immediate parts.0) in
+        let first : IsSameOrShape from to (operand_from s p m (Some from) h.immediate) (operand_from s q n (Some to) g.immediate) =
+        rw (same.0) (sign_alike s g.immediate parts.0) in
         let following = pairs_alike rest g.tail h.others g.others parts.1 (rw (same.1) at h.tail_spelled) g.tail_spelled in
         rw (h.yields, g.yields) (one_more first following)
 
@@ -94,24 +99,32 @@ module _ (from to : Raw) where
 
   -- the slot and the operand at a place, where it is known whether that is below the count
   abbrev At : Bool → List (Slot × Operand) → ℕ → Slot × Operand
-  At below xs k = (if below then slice_index_or (four_of xs).slots k slots.Nothing else slots.Nothing, if below then slice_index_or (four_of xs).operands k operands.Nothing else operands.Nothing)
+  At below xs k = (
+    if below then slice_index_or (four_of xs).slots k slots.Nothing else slots.Nothing,
+    if below
+        then slice_index_or (four_of xs).operands k operands.Nothing else operands.Nothing,
+  )
 
   at_place : (below : Bool) (xs ys : List (Slot × Operand)) (k : ℕ) → AlikePairs xs ys → IsSameOrShape from to (At below xs k) (At below ys k)
   at_place below xs ys k h = grind (arith, unchanged, h.each 0, h.each 1, h.each 2, h.each 3)
 
   module _ (address : IsSameAddress (raw_form to) (raw_form from)) (p q : Prefixes) (alike : cleared q ≡ cleared p) where
-    built : (plan : Plan) (opcode : ℕ) (x y : Places) (k l : ℕ) (xs ys : List (Slot × Operand)) → AlikePairs xs ys → IsSameButInMemory from to (instruction_of (reading_from plan p opcode (four_of xs)) x k) (instruction_of (reading_from plan q opcode (four_of ys)) y l)
+    built : (plan : Plan) (opcode : ℕ) (x y : Places) (k l : ℕ) (xs ys : List (Slot × Operand)) → AlikePairs xs ys →
+        IsSameButInMemory from to (instruction_of (reading_from plan p opcode (four_of xs)) x k) (instruction_of (reading_from plan q opcode (four_of ys)) y l)
     built plan opcode x y k l xs ys h = record {
       opcode = refl;
       prefixes = same_mark p q alike plan.change;
-      count = h.count;
+      count = ap (λ c. min c 4) h.count;
       mem_size = refl;
       operands = λ n. rw (h.count) (at_place (nat_lt n (length xs)) xs ys n h);
       address = address;
     }
 
     module _ (m n : ℕ) (register : reg_field n ≡ reg_field m) where
-      tails : {plan other : Plan} {tail end : List ℕ} {a b : Reading} (h : SpellsTail plan p m tail a) (g : SpellsTail other q n end b) (i j : Places) (k l : ℕ) → other ≡ plan → list_all rm_free_encoding (list_of plan.encodings) ≡ true → h.pieces.memory ≡ Some from → g.pieces.memory ≡ Some to → g.pieces.immediates ≡ h.pieces.immediates → g.pieces.suffix ≡ h.pieces.suffix → IsSameButInMemory from to (instruction_of a i k) (instruction_of b j l)
+      tails : {plan other : Plan} {tail end : List ℕ} {a b : Reading} (h : SpellsTail plan p m tail a) (g : SpellsTail other q n end b)
+          (i j : Places) (k l : ℕ) → other ≡ plan → list_all rm_free_encoding (list_of plan.encodings) ≡ true →
+          h.pieces.memory ≡ Some from → g.pieces.memory ≡ Some to → g.pieces.immediates ≡ h.pieces.immediates →
+          g.pieces.suffix ≡ h.pieces.suffix → IsSameButInMemory from to (instruction_of a i k) (instruction_of b j l)
       tails {plan = plan} {b = b} h g i j k l planned free old new immediates suffix =
           let x = h.pieces in
           let y = g.pieces in
@@ -123,7 +136,8 @@ module _ (from to : Raw) where
 
 -- ---- the encodings
 
-module _ {strict : Bool} {s : List ℕ} {a : Reading} {v : Encoding strict s a} {t : List ℕ} {b : Reading} {w : Encoding strict t b} (rel : IsRelative strict s a v t b w) where
+module _ {strict : Bool} {s : List ℕ} {a : Reading} {v : Encoding strict s a} {t : List ℕ} {b : Reading} {w : Encoding strict t b}
+    (rel : IsRelative strict s a v t b w) where
   map_is : w.map ≡ v.map
   map_is = let e = rel.parts.escape in grind arith
 
@@ -145,16 +159,24 @@ module _ {strict : Bool} {s : List ℕ} {a : Reading} {v : Encoding strict s a} 
       cc (new, row_is, seen_is, old)
 
   same_instruction : (i j : Places) (k l : ℕ) → IsSameButInMemory rel.address.from rel.address.to (instruction_of a i k) (instruction_of b j l)
-  same_instruction i j k l = tails rel.address.from rel.address.to rel.address.same (Seen v) (Seen w) seen_is (Byte v) (Byte w) register_is v.row_spelled.tail_spelled w.row_spelled.tail_spelled i j k l plan_is (row_is_free strict v.row (Seen v) (Byte v) (spells v rel.address.old).0 (fields v rel.address.old)) rel.address.old rel.address.new rel.parts.immediate rel.parts.suffix
+  same_instruction i j k l = tails rel.address.from rel.address.to rel.address.same (Seen v) (Seen w) seen_is (Byte v)
+      (Byte w) register_is v.row_spelled.tail_spelled w.row_spelled.tail_spelled i j k l plan_is
+      (row_is_free strict v.row (Seen v) (Byte v) (spells v rel.address.old).0 (fields v rel.address.old)) rel.address.old rel.address.new
+      rel.parts.immediate rel.parts.suffix
 
 -- said of sentences
-pub relative_is_same : (strict : Bool) (s : List ℕ) (a : Instruction) (is : IsSentence (rows_of packed) strict s a) (t : List ℕ) (b : Instruction) (other : IsSentence (rows_of packed) strict t b) (rel : IsRelative strict s is.reading is.whole t other.reading other.whole) → IsSameButInMemory rel.address.from rel.address.to a b
-relative_is_same strict s a is t b other rel = rw (is.yields, other.yields) (same_instruction rel (places_of (rows_of packed) strict s is.reading is.whole) (places_of (rows_of packed) strict t other.reading other.whole) (length s) (length t))
+pub relative_is_same : (strict : Bool) (s : List ℕ) (a : Instruction) (is : IsSentence (rows_of packed) strict s a) (t : List ℕ)
+    (b : Instruction) (other : IsSentence (rows_of packed) strict t b)
+    (rel : IsRelative strict s is.reading is.whole t other.reading other.whole) → IsSameButInMemory rel.address.from rel.address.to a b
+relative_is_same strict s a is t b other rel = rw (is.yields, other.yields)
+    (same_instruction rel (places_of (rows_of packed) strict s is.reading is.whole)
+    (places_of (rows_of packed) strict t other.reading other.whole) (length s) (length t))
 
 -- ---- addresses, by the laws on shapes and on forms
 
 abbrev HaveTheAddress : Type 0
-HaveTheAddress = (raw : Raw) (regs : List ℕ) (next : ℕ) → FitsSigned w32 raw.disp → operand_address raw.address_size (shape raw).1 regs next ≡ Some (value_at (raw_form raw) regs next)
+HaveTheAddress = (raw : Raw) (regs : List ℕ) (next : ℕ) → FitsSigned w32 raw.disp →
+    operand_address raw.address_size (shape raw).1 regs next ≡ Some (value_at (raw_form raw) regs next)
 
 abbrev AreReduced : Type 0
 AreReduced = (raw : Raw) → scale_by raw.sib ≤ 8 → FitsSigned w32 raw.disp → IsReduced (raw_form raw)
@@ -170,7 +192,8 @@ mark_67 : (change : PrefixChange) (p : Prefixes) → (changed change p).address_
 mark_67 change p = grind arith
 
 -- 67 of the raw fields is that of the instruction
-same_67 : {strict : Bool} {s : List ℕ} {a : Instruction} (is : IsSentence (rows_of packed) strict s a) {raw : Raw} → Reads is.whole raw → a.prefixes.address_size ≡ raw.address_size
+same_67 : {strict : Bool} {s : List ℕ} {a : Instruction} (is : IsSentence (rows_of packed) strict s a) {raw : Raw} → Reads is.whole raw →
+    a.prefixes.address_size ≡ raw.address_size
 same_67 is read =
     ap (λ i. i.prefixes.address_size) is.yields
     ∙ ap (λ r. r.prefixes.address_size) is.whole.row_spelled.tail_spelled.yields
@@ -178,31 +201,41 @@ same_67 is read =
     ∙ sym (ap (λ r. r.address_size) (spells is.whole read).1.fields)
 
 -- The operand that ModRM spells as memory is the shape of its raw fields, so it has their address.
-pub operand_has_address : HaveTheAddress → (strict : Bool) (s : List ℕ) (a : Instruction) (is : IsSentence (rows_of packed) strict s a) (raw : Raw) (k : ℕ) → Reads is.whole raw → operand_at a k ≡ (shape raw).1 → All (λ byte. byte < 256) s → (regs : List ℕ) (next : ℕ) → address_at a k regs next ≡ Some (value_at (raw_form raw) regs next)
+pub operand_has_address : HaveTheAddress → (strict : Bool) (s : List ℕ) (a : Instruction) (is : IsSentence (rows_of packed) strict s a)
+    (raw : Raw) (k : ℕ) → Reads is.whole raw → operand_at a k ≡ (shape raw).1 → All (λ byte. byte < 256) s → (regs : List ℕ) (next : ℕ) →
+    address_at a k regs next ≡ Some (value_at (raw_form raw) regs next)
 operand_has_address have strict s a is raw k read shaped bytes regs next =
     ap (λ t. operand_address t (operand_at a k) regs next) (same_67 is read)
     ∙ ap (λ o. operand_address raw.address_size o regs next) shaped
     ∙ have raw regs next (raw_of_bytes is.whole raw read (bytes_of s bytes)).disp
 
-module _ (have : HaveTheAddress) (reduced : AreReduced) (values : AreTheirValues) (from to : Raw) (from_bytes : IsOfBytes from) (to_bytes : IsOfBytes to) (regs : List ℕ) (next : ℕ) (file : IsRegFile regs) (small : next < 2 ^ 64) where
+module _ (have : HaveTheAddress) (reduced : AreReduced) (values : AreTheirValues) (from to : Raw) (from_bytes : IsOfBytes from)
+    (to_bytes : IsOfBytes to) (regs : List ℕ) (next : ℕ) (file : IsRegFile regs) (small : next < 2 ^ 64) where
   reduced_of : (raw : Raw) → IsOfBytes raw → IsReduced (raw_form raw)
   reduced_of raw h = reduced raw (scale_small raw.sib h.sib) h.disp
 
   same_value : IsSameAddress (raw_form to) (raw_form from) → value_at (raw_form to) regs next ≡ value_at (raw_form from) regs next
   same_value h = (values (raw_form to) (raw_form from) h.modulus (reduced_of to to_bytes) (reduced_of from from_bytes)).0 h regs next file small
 
-  at_shape : (i : Instruction) (k : ℕ) (raw : Raw) → IsOfBytes raw → i.prefixes.address_size ≡ raw.address_size → placed_at i k ≡ shape raw → address_at i k regs next ≡ Some (value_at (raw_form raw) regs next)
+  at_shape : (i : Instruction) (k : ℕ) (raw : Raw) → IsOfBytes raw → i.prefixes.address_size ≡ raw.address_size →
+      placed_at i k ≡ shape raw → address_at i k regs next ≡ Some (value_at (raw_form raw) regs next)
   at_shape i k raw h short shaped =
       ap (λ t. operand_address t (operand_at i k) regs next) short
       ∙ ap (λ x. operand_address raw.address_size x.1 regs next) shaped
       ∙ have raw regs next h.disp
 
-  module _ (a b : Instruction) (k : ℕ) (h : IsSameButInMemory from to a b) (old : a.prefixes.address_size ≡ from.address_size) (new : b.prefixes.address_size ≡ to.address_size) where
+  module _ (a b : Instruction) (k : ℕ) (h : IsSameButInMemory from to a b) (old : a.prefixes.address_size ≡ from.address_size)
+      (new : b.prefixes.address_size ≡ to.address_size) where
     same_place : IsSameOrShape from to (placed_at a k) (placed_at b k) → address_at b k regs next ≡ address_at a k regs next
-    same_place (unchanged e) = ap (λ p. operand_address p.address_size (operand_at b k) regs next) h.prefixes ∙ ap (λ x. operand_address a.prefixes.address_size x.1 regs next) e
+    same_place (unchanged e) = ap (λ p. operand_address p.address_size (operand_at b k) regs next) h.prefixes
+        ∙ ap (λ x. operand_address a.prefixes.address_size x.1 regs next) e
     same_place (shapes e f) = cc (at_shape b k to to_bytes new f, same_value h.address, at_shape a k from from_bytes old e)
 
-pub relative_has_addresses : HaveTheAddress → AreReduced → AreTheirValues → (strict : Bool) (s : List ℕ) (a : Instruction) (is : IsSentence (rows_of packed) strict s a) (t : List ℕ) (b : Instruction) (other : IsSentence (rows_of packed) strict t b) → IsRelative strict s is.reading is.whole t other.reading other.whole → All (λ byte. byte < 256) s → All (λ byte. byte < 256) t → (k : ℕ) (regs : List ℕ) (next : ℕ) → IsRegFile regs → next < 2 ^ 64 → address_at b k regs next ≡ address_at a k regs next
+pub relative_has_addresses : HaveTheAddress → AreReduced → AreTheirValues →
+    (strict : Bool) (s : List ℕ) (a : Instruction) (is : IsSentence (rows_of packed) strict s a) (t : List ℕ) (b : Instruction)
+    (other : IsSentence (rows_of packed) strict t b) → IsRelative strict s is.reading is.whole t other.reading other.whole →
+    All (λ byte. byte < 256) s → All (λ byte. byte < 256) t → (k : ℕ) (regs : List ℕ) (next : ℕ) → IsRegFile regs → next < 2 ^ 64 →
+    address_at b k regs next ≡ address_at a k regs next
 relative_has_addresses have reduced values strict s a is t b other rel s_bytes t_bytes k regs next file small =
     let from = rel.address.from in
     let to = rel.address.to in

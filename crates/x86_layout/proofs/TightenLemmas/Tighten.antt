@@ -10,7 +10,8 @@ use Rattle.x86_decode.specs.Addresses.{encodings_within, plan_within}
 use Rattle.x86_decode.specs.Grammar.{IsSentence}
 use Rattle.x86_decode.specs.Instruction.{slot_at}
 use Rattle.x86_layout.proofs.TightenLemmas.Respell.{is_shape}
-use Rattle.std.proofs.Common.{zero, suc, ◌<◌, ◌∷◌, ◌≡◌, ℕ, ◌≤◌, ◌==◌, ◌&&◌, Bool, true, false, if◌then◌else◌, Option, Some, List, length, refl, sym, ap, ◌∙◌, arith, length-append, ◌+◌, ◌-◌, not, [], append-nil}
+use Rattle.std.proofs.Common.{zero, suc, ◌<◌, ◌∷◌, ◌≡◌, ℕ, ◌≤◌, ◌==◌, ◌&&◌, Bool, true, false, if◌then◌else◌, Option, Some, List, length}
+use Rattle.std.proofs.Common.{refl, sym, ap, ◌∙◌, arith, length-append, ◌+◌, ◌-◌, not, [], append-nil}
 use Rattle.x86_fields.specs.declared.prefixes.Prefixes.{Prefixes}
 use Rattle.x86_fields.specs.declared.raw.Raw.{Raw}
 use Rattle.x86_fields.specs.ModRM.{rm_field, is_memory}
@@ -44,7 +45,8 @@ use Rattle.x86_layout.specs.Tightening.Least.{least_by, least_length, shortest_l
 -- ---- raw fields
 
 module _ {strict : Bool} {s : List ℕ} {a : Reading} (v : Encoding strict s a) where
-  some_by : (p : Prefixes) (m : ℕ) (address : List ℕ) (memory : Option Raw) → SpellsMemory p m address memory → is_memory m ≡ true → (raw : Raw) × (memory ≡ Some raw)
+  some_by : (p : Prefixes) (m : ℕ) (address : List ℕ) (memory : Option Raw) → SpellsMemory p m address memory → is_memory m ≡ true →
+      (raw : Raw) × (memory ≡ Some raw)
   some_by p m address memory h e = grind arith
 
   pub some_memory : is_memory (Byte v) ≡ true → (raw : Raw) × (Reads v raw)
@@ -82,7 +84,8 @@ module _ {strict : Bool} {s : List ℕ} {a : Reading} (v : Encoding strict s a) 
         let p = reading_of v.run in
         let x = spells v read in
         let s = x.1 in
-        let long : length parts.sib ≡ length (option_bytes s.sib) = h.sib ∙ ap (λ t. if t && rm_field (Byte v) == 4 then 1 else 0) x.0 ∙ ap one_if (sym s.sib_present) ∙ sym (option_count s.sib) in
+        let long : length parts.sib ≡ length (option_bytes s.sib) = h.sib ∙ ap (λ t. if t && rm_field (Byte v) == 4 then 1 else 0) x.0
+        ∙ ap one_if (sym s.sib_present) ∙ sym (option_count s.sib) in
         let address = halves parts.sib parts.displacement (option_bytes s.sib) s.disp (h.address ∙ s.spelled) long in
         let fields = rw (seen_rex v.map v.opcode p, seen_67 v.map v.opcode p) at s.fields in
         rw (h.prefixes, h.modrm ∙ byte v read, address.0, address.1, first_of s.sib, s.disp_length) (sym fields)
@@ -97,23 +100,39 @@ module _ {strict : Bool} {s : List ℕ} {a : Reading} (v : Encoding strict s a) 
       respelled_fits ip short =
           let old = length_is v raw read in
           let new = no_longer v read fit ip in
-          omega (arith, length-append {A = ℕ}, short, old, new, ap length h.prefixes, ap length h.escape, ap length h.opcode, ap length h.immediate, ap length h.suffix)
+          omega (
+            arith,
+            length-append {A = ℕ},
+            short,
+            old,
+            new,
+            ap length h.prefixes,
+            ap length h.escape,
+            ap length h.opcode,
+            ap length h.immediate,
+            ap length h.suffix,
+          )
 
 -- ---- an instruction without a memory operand
 
 -- one of the operands is the memory operand of ModRM
-named_at : (encodings : List OperandEncoding) → list_any is_modrm_encoding encodings ≡ true → (k : ℕ) × ((k < length encodings) × (names_modrm encodings k ≡ true))
+named_at : (encodings : List OperandEncoding) → list_any is_modrm_encoding encodings ≡ true → (k : ℕ)
+    × ((k < length encodings) × (names_modrm encodings k ≡ true))
 named_at [] h = absurd (cc h)
 named_at (s ∷ rest) h = by (is_modrm_encoding s) refl (λ k. named_at rest k)
   where
-    by : (t : Bool) → is_modrm_encoding s ≡ t → (list_any is_modrm_encoding rest ≡ true → (k : ℕ) × ((k < length rest) × (names_modrm rest k ≡ true))) → (k : ℕ) × ((k < length (s ∷ rest)) × (names_modrm (s ∷ rest) k ≡ true))
+    by : (t : Bool) → is_modrm_encoding s ≡ t → (list_any is_modrm_encoding rest ≡ true → (k : ℕ)
+        × ((k < length rest) × (names_modrm rest k ≡ true))) → (k : ℕ) × ((k < length (s ∷ rest)) × (names_modrm (s ∷ rest) k ≡ true))
     by true e others = (zero, (omega arith, e))
     by false e others = let found = others (rw e at h) in let l = found.1.0 in (suc found.0, (omega (arith, l), found.1.1))
 
 few : (encodings : OperandEncodings) → length (list_of encodings) ≤ 4
 few encodings = grind arith
 
-module _ {strict : Bool} {s : List ℕ} {a : Instruction} (is : IsSentence (rows_of packed) strict s a) (slots : (raw : Raw) (k : ℕ) → Reads is.whole raw → names_modrm (encodings_within (rows_of packed) strict s is.reading is.whole) k ≡ true → slot_at a k ≡ (shape raw).0) (none : (k : ℕ) → k < 4 → is_memory_slot (slot_at a k) ≡ false) where
+module _ {strict : Bool} {s : List ℕ} {a : Instruction} (is : IsSentence (rows_of packed) strict s a)
+    (slots : (raw : Raw) (k : ℕ) → Reads is.whole raw →
+    names_modrm (encodings_within (rows_of packed) strict s is.reading is.whole) k ≡ true → slot_at a k ≡ (shape raw).0)
+    (none : (k : ℕ) → k < 4 → is_memory_slot (slot_at a k) ≡ false) where
   -- where no slot is memory, ModRM isn't a memory form
   pub without_memory : is_memory (Byte is.whole) ≡ false
   without_memory = by (is_memory (Byte is.whole)) refl
@@ -122,7 +141,8 @@ module _ {strict : Bool} {s : List ℕ} {a : Instruction} (is : IsSentence (rows
       by false e = refl
       by true e =
           let some = some_memory is.whole e in
-          let at = named_at (encodings_within (rows_of packed) strict s is.reading is.whole) (operand_form is.whole some.0 some.1 (is_ip_relative some.0) refl).operand.written in
+          let at = named_at (encodings_within (rows_of packed) strict s is.reading is.whole)
+          (operand_form is.whole some.0 some.1 (is_ip_relative some.0) refl).operand.written in
           let slot = slots some.0 at.0 some.1 at.1.1 in
           let below : at.0 < 4 = let l = at.1.0 in let f = few (plan_within (rows_of packed) strict s is.reading is.whole).encodings in omega (arith, l, f) in
           cc (slot, is_shape some.0, none at.0 below)
@@ -130,7 +150,8 @@ module _ {strict : Bool} {s : List ℕ} {a : Instruction} (is : IsSentence (rows
 -- ---- a memory form by its byte
 
 -- a byte of ModRM is used as it is where mod is looked at
-form_by : (u : ModrmUse) (modrm : List ℕ) → length modrm ≡ modrm_width u → has_memory_form modrm ≡ true → (u ≡ Registers → ⊥) → is_memory (modrm_of u modrm) ≡ true
+form_by : (u : ModrmUse) (modrm : List ℕ) → length modrm ≡ modrm_width u → has_memory_form modrm ≡ true → (u ≡ Registers → ⊥) →
+    is_memory (modrm_of u modrm) ≡ true
 form_by Absent [] e h other = h
 form_by EitherForm (m ∷ []) e h other = h
 form_by Registers modrm e h other = absurd (other refl)
@@ -138,7 +159,8 @@ form_by u modrm e h other = absurd (omega arith)
 
 module _ {strict : Bool} {s : List ℕ} {a : Instruction} (is : IsSentence (rows_of packed) strict s a) where
   pub with_memory : (k : ℕ) × (is_memory_slot (slot_at a k) ≡ true) → has_memory_form is.whole.row_spelled.modrm ≡ true → is_memory (Byte is.whole) ≡ true
-  with_memory some h = form_by (Row is.whole).modrm is.whole.row_spelled.modrm is.whole.row_spelled.modrm_length h (λ usage. let none = no_memory_slot is usage some.0 in let memory = some.1 in cc (none, memory))
+  with_memory some h = form_by (Row is.whole).modrm is.whole.row_spelled.modrm is.whole.row_spelled.modrm_length h
+      (λ usage. let none = no_memory_slot is usage some.0 in let memory = some.1 in cc (none, memory))
 
 -- ---- the prefixes of an instruction have the REX and the 67 of its run
 
@@ -150,10 +172,12 @@ changed_67 c p = grind arith
 
 module _ {strict : Bool} {s : List ℕ} {a : Instruction} (is : IsSentence (rows_of packed) strict s a) where
   pub answer_rex : a.prefixes.rex ≡ (reading_of is.whole.run).rex
-  answer_rex = ap (λ i. i.prefixes.rex) is.yields ∙ ap (λ r. r.prefixes.rex) is.whole.row_spelled.tail_spelled.yields ∙ changed_rex _ (Seen is.whole) ∙ seen_rex is.whole.map is.whole.opcode (reading_of is.whole.run)
+  answer_rex = ap (λ i. i.prefixes.rex) is.yields ∙ ap (λ r. r.prefixes.rex) is.whole.row_spelled.tail_spelled.yields
+      ∙ changed_rex _ (Seen is.whole) ∙ seen_rex is.whole.map is.whole.opcode (reading_of is.whole.run)
 
   pub answer_67 : a.prefixes.address_size ≡ (reading_of is.whole.run).address_size
-  answer_67 = ap (λ i. i.prefixes.address_size) is.yields ∙ ap (λ r. r.prefixes.address_size) is.whole.row_spelled.tail_spelled.yields ∙ changed_67 _ (Seen is.whole) ∙ seen_67 is.whole.map is.whole.opcode (reading_of is.whole.run)
+  answer_67 = ap (λ i. i.prefixes.address_size) is.yields ∙ ap (λ r. r.prefixes.address_size) is.whole.row_spelled.tail_spelled.yields
+      ∙ changed_67 _ (Seen is.whole) ∙ seen_67 is.whole.map is.whole.opcode (reading_of is.whole.run)
 
 -- ---- the length of a shortest relative
 
@@ -164,7 +188,8 @@ module _ {strict : Bool} {s : List ℕ} {a : Reading} (v : Encoding strict s a) 
       let h = has_head [] v (sym (append-nil s)) in
       cc (h.ask, h.tail, append-nil v.tail, read_as v.row_spelled v.row_spelled.tail v.row_spelled.spelled)
 
-  least_is : (memory : Bool) (raw : Raw) → is_memory (Byte v) ≡ memory → raw_of (parts_of strict s) ≡ raw → least_length strict s ≡ least_by memory raw (length s)
+  least_is : (memory : Bool) (raw : Raw) → is_memory (Byte v) ≡ memory → raw_of (parts_of strict s) ≡ raw →
+      least_length strict s ≡ least_by memory raw (length s)
   unfolding least_length
   least_is memory raw e f = cc (reads, e, f)
 
@@ -172,7 +197,8 @@ module _ {strict : Bool} {s : List ℕ} {a : Reading} (v : Encoding strict s a) 
   least_without e = least_is false (raw_of (parts_of strict s)) e refl
 
   module _ {raw : Raw} (read : Reads v raw) where
-    pub least_with : (ip : Bool) → is_ip_relative raw ≡ ip → least_length strict s ≡ (if true && not ip then (length s - address_length raw) + address_length (shortest raw) else length s)
+    pub least_with : (ip : Bool) → is_ip_relative raw ≡ ip →
+        least_length strict s ≡ (if true && not ip then (length s - address_length raw) + address_length (shortest raw) else length s)
     least_with ip e =
         cc (least_is true raw (spells v read).0 (raw_is v read (parts_of strict s) (parts_are [] v (sym (append-nil s)))), e)
 
@@ -184,6 +210,7 @@ module _ {strict : Bool} {s : List ℕ} {a : Reading} (v : Encoding strict s a) 
         omega (arith, h, old, new)
 
 -- at the beginning of bytes
-pub least_beginning : {strict : Bool} {bytes encoding : List ℕ} {instruction : Instruction} → IsFirstSentence strict bytes encoding instruction → shortest_length strict bytes ≡ least_length strict encoding
+pub least_beginning : {strict : Bool} {bytes encoding : List ℕ} {instruction : Instruction} →
+    IsFirstSentence strict bytes encoding instruction → shortest_length strict bytes ≡ least_length strict encoding
 unfolding shortest_length
 least_beginning h = cc (h.accepted, h.taken)

@@ -1,5 +1,5 @@
 -- The parts of the encoding at the beginning of bytes, known from the bytes.
-use Rattle.std.specs.Prelude.{ℕ, Bool, false, if◌then◌else◌, Option, Some, None, List, length, take, drop, slice_index}
+use Rattle.std.specs.Prelude.{◌≡◌, ℕ, Bool, false, if◌then◌else◌, Option, Some, None, List, length, take, drop, slice_index, Ok}
 use Rattle.std.specs.List.{prefix_len}
 use Rattle.x86_fields.specs.declared.prefixes.Prefixes.{Prefixes}
 use Rattle.x86_fields.specs.Run.{is_prefix, reading_of}
@@ -12,6 +12,8 @@ use Rattle.x86_forms.specs.Words.{rows_of, packed}
 use Rattle.x86_operands.specs.declared.asks.Ask.{Ask}
 use Rattle.x86_operands.specs.Asks.{ask_of}
 use Rattle.x86_decode.specs.Head.{column_of, escape_bytes, seen_by}
+use Rattle.x86_decode.specs.declared.instructions.Instruction.{Instruction}
+use Rattle.x86_decode.specs.Answer.{answer_of}
 use Rattle.x86_groups.specs.Groups.{record_of}
 use Rattle.x86_layout.specs.Parts.Heads.{map_of, one_if, has_sib}
 
@@ -91,3 +93,9 @@ parts_of strict bytes = record {
   immediate = immediate_in (ask_in bytes strict) (tail_in bytes);
   suffix = suffix_in (ask_in bytes strict) (tail_in bytes);
 }
+
+-- The bytes begin with an instruction that has these parts.
+pub record Decodes (strict : Bool) (bytes : List ℕ) (parts : PartLists) : Type 0 where
+  pub instruction : Instruction
+  pub accepted : answer_of strict bytes ≡ Ok instruction
+  pub same : parts_of strict bytes ≡ parts

@@ -1,5 +1,6 @@
 -- Permitted fields: five conditions, in order, each with the error where it is the first that fails.
-use Rattle.std.specs.Prelude.{◌≡◌, ℕ, ◌==◌, ◌&&◌, ◌||◌, nat_le, not, Bool, false, if◌then◌else◌, Option, Some, None, is_some, is_none, List, [], ◌∷◌, ◌++◌, length, Result, Ok, Err}
+use Rattle.std.specs.Prelude.{◌≡◌, ℕ, ◌==◌, ◌&&◌, ◌||◌, nat_le, not, Bool, false, if◌then◌else◌, Option, Some, None, is_some, is_none, List}
+use Rattle.std.specs.Prelude.{[], ◌∷◌, ◌++◌, length, Result, Ok, Err}
 use Rattle.x86_fields.specs.declared.errors.DecodeError.{DecodeError}
 use Rattle.x86_fields.specs.declared.prefixes.Prefixes.{Prefixes}
 use Rattle.x86_fields.specs.Run.{reading_of}
@@ -16,7 +17,7 @@ use Rattle.x86_operands.specs.declared.reader.Reading.{Reading}
 use Rattle.x86_fields.specs.ModRM.{is_memory}
 use Rattle.x86_operands.specs.Plans.{is_refusal}
 use Rattle.x86_operands.specs.PlanSteps.{suffix_opcode, record_step}
-use Rattle.x86_operands.specs.Asks.{uses_modrm, uses_suffix, immediates_width, record_at}
+use Rattle.x86_operands.specs.Asks.{record_at}
 use Rattle.x86_decode.specs.Head.{is_run, column_of, is_opcode, seen_by}
 use Rattle.x86_decode.specs.declared.instructions.Instruction.{Instruction}
 use Rattle.x86_groups.specs.Groups.{record_of}
@@ -25,8 +26,8 @@ use Rattle.x86_layout.specs.declared.parts.fields.Fields.{Fields}
 use Rattle.x86_layout.specs.declared.parts.entries.Entry.{Entry}
 use Rattle.x86_layout.specs.declared.parts.emit.EmitError.{EmitError}
 use Rattle.x86_layout.specs.declared.parts.emit.EmitError.TheVariants as error
-use Rattle.x86_layout.specs.Parts.Heads.{one_if}
-use Rattle.x86_layout.specs.Parts.Split.{sib_width, HasParts, joined}
+use Rattle.x86_layout.specs.Parts.Heads.{has_sib, one_if}
+use Rattle.x86_layout.specs.Parts.Split.{HasParts, joined}
 use Rattle.x86_layout.specs.Parts.Fields.{lists_in}
 
 -- ---- the row that fields name
@@ -63,7 +64,7 @@ has_legal_run f = is_run f.prefixes.items
 
 -- a ModRM that the row has isn't there
 abbrev pub lacks_modrm : RecordAt → Fields → Bool
-lacks_modrm at f = uses_modrm at.usage && is_none f.modrm
+lacks_modrm at f = at.ask.modrm && is_none f.modrm
 
 -- the suffix that is there names no operation, where the row has one
 abbrev pub refuses_suffix : Verdict → Option ℕ → Bool
@@ -72,7 +73,7 @@ refuses_suffix verdict suffix = false
 
 -- 2: the record refuses neither at the opcode, nor for the ModRM that is there, nor for the suffix that is there
 abbrev pub passes_record : RecordAt → Fields → Bool
-passes_record at f = is_none at.at_opcode && (not (is_refusal at.plan.verdict) || lacks_modrm at f) && not (refuses_suffix at.plan.verdict f.suffix)
+passes_record at f = is_none at.at_opcode && (not (is_refusal at.verdict) || lacks_modrm at f) && not (refuses_suffix at.verdict f.suffix)
 
 -- how many bytes of displacement there are at ModRM and SIB
 abbrev pub displacement_length : ℕ → Option ℕ → ℕ
@@ -81,11 +82,11 @@ displacement_length m sib = if is_memory m then displacement_width m sib else 0
 -- 3: each part that the row has is there with its length, and no other part is
 abbrev pub has_row_parts : RecordAt → Fields → Bool
 has_row_parts at f =
-    (one_if (is_some f.modrm) == one_if (uses_modrm at.usage))
-    && (one_if (is_some f.sib) == sib_width at.modrm)
+    (one_if (is_some f.modrm) == one_if at.ask.modrm)
+    && (one_if (is_some f.sib) == one_if (has_sib at.ask at.modrm))
     && (length f.displacement.items == displacement_length at.modrm f.sib)
-    && (length f.immediate.items == immediates_width at.plan.encodings)
-    && (one_if (is_some f.suffix) == one_if (uses_suffix at.plan.verdict))
+    && (length f.immediate.items == at.ask.immediate)
+    && (one_if (is_some f.suffix) == one_if at.ask.suffix)
 
 -- what follows the opcode byte
 abbrev pub tail_of : Fields → List ℕ
@@ -97,7 +98,8 @@ answer_allows_lock (Err e) = false
 
 -- 4: F0 is absent, or allowed for the reading of what follows the opcode byte
 abbrev pub has_lawful_lock : Bool → Entry → Fields → Bool
-has_lawful_lock strict e f = answer_allows_lock (record_step (record_of strict e.row e.prefixes) e.prefixes (record { left = tail_of f; since_mark = 0; since_made = 0 })).answer
+has_lawful_lock strict e f = answer_allows_lock
+    (record_step (record_of strict e.row e.prefixes) e.prefixes (record { left = tail_of f; since_mark = 0; since_made = 0 })).answer
 
 -- 5: the parts have at most 15 bytes in all
 abbrev pub is_short : Fields → Bool

@@ -1,5 +1,6 @@
 -- Encodings that differ in how they name an address.
-use Rattle.std.specs.Prelude.{◌≡◌, ℕ, ◌+◌, ◌*◌, ◌/◌, ◌≤◌, ◌<◌, ◌++◌, Bool, true, false, if◌then◌else◌, Option, Some, None, List, [], ◌∷◌, length, map, take, slice_index, Ok, Err, All}
+use Rattle.std.specs.Prelude.{◌≡◌, ℕ, ◌+◌, ◌*◌, ◌/◌, ◌≤◌, ◌<◌, ◌++◌, Bool, true, false, if◌then◌else◌, Option, Some, None, List, [], ◌∷◌}
+use Rattle.std.specs.Prelude.{length, map, take, slice_index, Ok, Err, All}
 use Rattle.std.specs.List.{list_any}
 use Rattle.std.specs.Int.{w32, cast_unsigned, to_le_bytes}
 use Rattle.x86_fields.specs.declared.rex.PrefixRex.{PrefixRex}
@@ -66,11 +67,13 @@ address_bytes raw = option_bytes raw.sib ++ spelled_displacement raw
 
 -- parts with other raw fields, in order
 abbrev pub respelled : Parts → Raw → List ℕ
-respelled p raw = run_with raw.rex_x raw.rex_b p.prefixes.now ++ (p.escape.now ++ (p.opcode.now ++ (raw.modrm ∷ (address_bytes raw ++ (p.immediate.now ++ p.suffix.now)))))
+respelled p raw = run_with raw.rex_x raw.rex_b p.prefixes.now
+    ++ (p.escape.now ++ (p.opcode.now ++ (raw.modrm ∷ (address_bytes raw ++ (p.immediate.now ++ p.suffix.now)))))
 
 -- how many bytes that are
 abbrev pub respelled_length : Parts → Raw → ℕ
-respelled_length p raw = length p.prefixes.now + length p.escape.now + length p.opcode.now + 1 + address_length raw + length p.immediate.now + length p.suffix.now
+respelled_length p raw = length p.prefixes.now + length p.escape.now + length p.opcode.now + 1 + address_length raw + length p.immediate.now
+    + length p.suffix.now
 
 -- a ModRM byte is there, and its mod is that of memory
 abbrev pub has_memory_form : List ℕ → Bool
@@ -104,7 +107,8 @@ module _ (strict : Bool) (s : List ℕ) (a : Reading) (v : Encoding strict s a) 
 module _ (strict : Bool) (s : List ℕ) (a : Reading) (v : Encoding strict s a) where
   -- No relative of s is shorter.
   abbrev pub IsLeast : List ℕ → Type 0
-  IsLeast t = (u : List ℕ) (c : Instruction) (is : IsSentence (rows_of packed) strict u c) → All (λ byte. byte < 256) u → IsRelative strict s a v u is.reading is.whole → length t ≤ length u
+  IsLeast t = (u : List ℕ) (c : Instruction) (is : IsSentence (rows_of packed) strict u c) → All (λ byte. byte < 256) u →
+      IsRelative strict s a v u is.reading is.whole → length t ≤ length u
 
   -- t is a sentence that is a relative of s, and no relative of s is shorter.
   pub record IsShortest (t : List ℕ) : Type 0 where

@@ -1,6 +1,6 @@
 //! Fields written as bytes.
 
-ghost use Rattle.std.specs.Prelude.{◌≡◌, ◌+◌, ◌≤◌, ◌++◌, length, is_some, IfSome, MatchResult, IsOk, IfOk, IfErr, ◌↔◌, Some, None};
+ghost use Rattle.std.specs.Prelude.{◌≡◌, ℕ, ◌+◌, ◌≤◌, ◌++◌, List, length, is_some, IfSome, MatchResult, IsOk, IfOk, IfErr, ◌↔◌, Some, None};
 ghost use Rattle.arrayvec.specs.ArrayVec.{array_vec_len};
 ghost use Rattle.x86_fields.specs.Pieces.{option_bytes};
 ghost use Rattle.x86_forms.specs.Words.{IsForm};
@@ -10,8 +10,10 @@ ghost use Rattle.x86_decode.specs.Head.{is_run};
 ghost use Rattle.x86_layout.specs.Parts.Heads.{has_sib};
 ghost use Rattle.x86_layout.specs.Parts.Split.{joined};
 ghost use Rattle.x86_layout.specs.Parts.Fields.{lists_in};
+ghost use Rattle.x86_layout.specs.Parts.OfBytes.{Decodes};
 ghost use Rattle.x86_layout.specs.Parts.Permitted.{lacks_modrm, refuses_suffix, passes_record, displacement_length, has_row_parts, tail_of, has_lawful_lock, is_short, failing_at, first_failing, IsPermitted};
 
+use crate::laws;
 use crate::parts::entries::{Entry, entry_of};
 use crate::parts::fields::Fields;
 use arrayvec::ArrayVec;
@@ -22,7 +24,7 @@ use x86_decode::builders::{allows_lock, is_prefix, read_row};
 use x86_fields::{ModRM, displacement_width};
 use x86_groups::row_at;
 use x86_operands::plans::Verdict;
-use x86_operands::{Ask, RecordAt, plan_ask, suffix_opcode};
+use x86_operands::{Ask, RecordAt, suffix_opcode};
 
 /// Why fields aren't written: the first condition that fails, in this order.
 #[derive(Clone, Copy, PartialEq, Eq, Debug, Drop, Error)]
@@ -55,8 +57,7 @@ fn is_run(prefixes: &[u8]) -> bool
 fn lacks_modrm(row_record: &RecordAt, fields: &Fields) -> bool
     ensures { result ≡ lacks_modrm row_record.now fields.now }
 {
-    let ask = plan_ask(row_record.usage, row_record.modrm, &row_record.plan);
-    ask.modrm && fields.modrm.is_none()
+    row_record.ask.modrm && fields.modrm.is_none()
 }
 
 /// Whether the suffix that is there names no operation, where the row has one.
@@ -79,8 +80,8 @@ fn is_refusal(verdict: Verdict) -> bool
 fn passes_record(row_record: &RecordAt, fields: &Fields) -> bool
     ensures { result ≡ passes_record row_record.now fields.now }
 {
-    let modrm_passes = !is_refusal(row_record.plan.verdict) || lacks_modrm(row_record, fields);
-    let suffix_passes = !refuses_suffix(row_record.plan.verdict, fields.suffix);
+    let modrm_passes = !is_refusal(row_record.verdict) || lacks_modrm(row_record, fields);
+    let suffix_passes = !refuses_suffix(row_record.verdict, fields.suffix);
     row_record.at_opcode.is_none() && modrm_passes && suffix_passes
 }
 
@@ -106,7 +107,7 @@ fn has_sib(ask: &Ask, modrm: ModRM) -> bool
 fn has_row_parts(row_record: &RecordAt, fields: &Fields) -> bool
     ensures { result ≡ has_row_parts row_record.now fields.now }
 {
-    let ask = plan_ask(row_record.usage, row_record.modrm, &row_record.plan);
+    let ask = row_record.ask;
     let sib_present = has_sib(&ask, row_record.modrm);
     let displacement = usize::from(displacement_length(row_record.modrm, fields.sib));
     let modrm_fits = fields.modrm.is_some() == ask.modrm;
@@ -211,24 +212,37 @@ fn emit_row(strict: bool, entry: &Entry, fields: &Fields) -> Result<ArrayVec<u8,
     }
 }
 
-/// The encoding that has these parts, where they are permitted: the prefixes are a legal run; the opcode byte has a
-/// row, and its record doesn't refuse; each part that the row has is there with its length, and no other part; F0 is
-/// absent or allowed; and the parts have at most 15 bytes in all. Else the error says which of these fails first
-/// (Intel SDM volume 2, section 2.1).
-///
-/// The fields of the split of `48 03 44 25 00` yield these bytes again, and `Shape` where their SIB is taken away.
+/// Writes fields where they are permitted.
 #[tactic(auto, unfolding(crate::specs::Parts::Permitted::first_failing))]
-pub fn emit(decoder: &InstDecoder, fields: &Fields) -> Result<ArrayVec<u8, 15>, EmitError>
-    ensures permitted { IsOk result ↔ IsPermitted (is_strict decoder.now) fields.now }
+fn emit_permitted(strict: bool, fields: &Fields) -> Result<ArrayVec<u8, 15>, EmitError>
+    ensures permitted { IsOk result ↔ IsPermitted strict fields.now }
     ensures bytes { IfOk result (λ bytes. bytes.items ≡ joined (lists_in fields.now)) }
-    ensures first { IfErr result
-        (λ error. first_failing (is_strict decoder.now) fields.now ≡ Some error) }
+    ensures first { IfErr result (λ error. first_failing strict fields.now ≡ Some error) }
 {
     if !is_run(fields.prefixes.as_slice()) {
         return Err(EmitError::Prefixes);
     }
     match entry_of(fields) {
-        Some(entry) => emit_row(decoder.is_strict(), &entry, fields),
+        Some(entry) => emit_row(strict, &entry, fields),
         None => Err(EmitError::Row),
     }
+}
+
+/// The encoding that has these parts, where they are permitted: the prefixes are a legal run; the opcode byte has a
+/// row, and its record doesn't refuse; each part that the row has is there with its length, and no other part; F0 is
+/// absent or allowed; and the parts have at most 15 bytes in all. Else the error says which of these fails first
+/// (Intel SDM volume 2, section 2.1). What is written is read again as an instruction of the same parts, whatever
+/// follows it.
+///
+/// The fields of the split of `48 03 44 25 00` yield these bytes again, and `Shape` where their SIB is taken away.
+pub fn emit(decoder: &InstDecoder, fields: &Fields) -> Result<ArrayVec<u8, 15>, EmitError>
+    ensures permitted { IsOk result ↔ IsPermitted (is_strict decoder.now) fields.now }
+    ensures bytes { IfOk result (λ bytes. bytes.items ≡ joined (lists_in fields.now)) }
+    ensures decodes { IfOk result (λ bytes. (rest : List ℕ) →
+        Decodes (is_strict decoder.now) (bytes.items ++ rest) (lists_in fields.now)) }
+    ensures first { IfErr result
+        (λ error. first_failing (is_strict decoder.now) fields.now ≡ Some error) }
+{
+    laws::permitted_fields_are_split_again();
+    emit_permitted(decoder.is_strict(), fields)
 }

@@ -25,14 +25,14 @@ fn is_branch(opcode: Opcode) -> bool
 }
 
 /// Whether a relative target comes from this slot.
-fn is_offset_slot(slot: Slot) -> bool
+pub fn is_offset_slot(slot: Slot) -> bool
     ensures { result ≡ is_offset_slot slot }
 {
     matches!(slot, Slot::ImmI8 | Slot::ImmI32)
 }
 
 /// The number that is added to the address of the next instruction.
-fn offset_of(operand: Operand) -> i64
+pub fn offset_of(operand: Operand) -> i64
     ensures { result ≡ offset_of operand }
 {
     match operand {
@@ -46,7 +46,8 @@ fn offset_of(operand: Operand) -> i64
 /// immediate, modulo 2^64. `None` where the operation isn't CALL, JMP, a Jcc, LOOPNZ, LOOPZ, LOOP, JRCXZ or JECXZ, or
 /// its target isn't an immediate (Intel SDM volume 2, CALL, JMP, Jcc and LOOP/LOOPcc).
 ///
-/// For `eb fe` at address 0, with `next` 2, this is `Some(0)`; for `ff e0`, which is JMP rax, it is `None`.
+/// For `eb fe` at address 0, with `next` 2, this is `Some(0)`; for `ff e0`, which is JMP rax, it is `None`. XBEGIN isn't
+/// among these operations, though it has a target of this kind: `flow` answers it.
 pub fn branch_target(inst: &Instruction, next: u64) -> Option<u64>
     ensures { result ≡ branch_target inst.now next }
 {

@@ -7,6 +7,9 @@ use crate::sweeps::cuts::{Cut, first_cut};
 use x86_decode::InstDecoder;
 
 /// The cuts of bytes, in order. Every byte belongs to exactly one of them.
+///
+/// A loop that indexes the bytes by `place`, or adds `place` and `length`, has the line `x86_layout::laws::cuts_cover();`
+/// before it: by that law each cut has some bytes and lies within the input.
 #[derive(Drop)]
 pub struct Sweep<'a> {
     decoder: InstDecoder,

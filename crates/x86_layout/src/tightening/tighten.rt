@@ -28,10 +28,10 @@ pub enum TightenError {
     /// The bytes are refused as `InstDecoder::decode_slice` refuses them.
     #[error("{0}")]
     Refused(DecodeError),
-    /// The encoding has no memory operand that is read from ModRM.
+    /// The encoding has no memory operand that is read from ModRM, as where mod isn't looked at (`0f 20 05`).
     #[error("no memory form")]
     NoMemoryForm,
-    /// Its address is relative to the next instruction: mod 00 with rm 101.
+    /// That operand is relative to the next instruction: mod 00 with rm 101.
     #[error("ip-relative form")]
     IpRelative,
 }
@@ -152,8 +152,8 @@ pub fn shortest_length(decoder: &InstDecoder, instruction: &Instruction, bytes: 
 ///
 /// Its parts are those of that encoding, but for mod and rm of ModRM, SIB, the displacement, and the bits X and B of
 /// a live REX. Base and index may change places at scale 1, and the processor's default segment with them. Refused as
-/// `InstDecoder::decode_slice` refuses; `NoMemoryForm` where ModRM isn't a memory form, and `IpRelative` at mod 00
-/// with rm 101.
+/// `InstDecoder::decode_slice` refuses; `NoMemoryForm` where no operand is memory that ModRM spells, and else `IpRelative`
+/// at mod 00 with rm 101.
 ///
 /// For `48 8b 84 25 00 00 00 00`, which is MOV rax, [rbp], this is `48 8b 45 00` (Intel SDM volume 2, section 2.1.5).
 pub fn tighten(decoder: &InstDecoder, bytes: &[u8]) -> Result<ArrayVec<u8, 15>, TightenError>

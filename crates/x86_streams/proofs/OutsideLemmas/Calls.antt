@@ -1,5 +1,6 @@
 -- Calls of a reader and a writer, one after the other.
-use Rattle.std.proofs.Common.{◌≡◌, ◌<◌, ◌≤◌, ℕ, zero, suc, ◌+◌, List, [], ◌∷◌, ◌++◌, take, drop, IfErr, IsTrue, ◌↔◌, take-append-drop, length, length-take, Option, Result, Ok, Err, refl, ap, ◌∙◌, subst, sym, append_assoc, append-nil, arith}
+use Rattle.std.proofs.Common.{◌≡◌, ◌<◌, ◌≤◌, ℕ, zero, suc, ◌+◌, List, [], ◌∷◌, ◌++◌, take, drop, IfErr, IsTrue, ◌↔◌, take-append-drop}
+use Rattle.std.proofs.Common.{length, length-take, Option, Result, Ok, Err, refl, ap, ◌∙◌, subst, sym, append_assoc, append-nil, arith}
 use Rattle.std.specs.Prelude.{Bool, OnErr, OnOk, false, true, ⊤}
 use Rattle.std.specs.declared.io.Error.{Error}
 use Rattle.std.specs.declared.io.ErrorKind.TheVariants.{Interrupted}
@@ -16,7 +17,9 @@ use Rattle.x86_streams.specs.Outside.Source.{CountsFailed, ReportsGot, ReturnsNe
 use Rattle.x86_streams.specs.declared.outside.joined.Joined.{Joined}
 use Rattle.x86_streams.specs.declared.outside.sending.WriteFailed.{WriteFailed}
 use Rattle.x86_streams.specs.Outside.Joined.{FlushesWriter, ReadsReader, WritesWriter}
-use Rattle.x86_streams.specs.Outside.Chain.{Call, Read, Write, Flush, pieces, received, sent, stop_of, taken_by, not_taken, AllContinue, Cause, EndsIn, IsGone, Interruptions, Uninterrupted, ReadsOnce, WritesOnce, FlushesOnce, Calls, NoRead, WriterCalls, Puts, PutsByWrites, Sends, SendsAll}
+use Rattle.x86_streams.specs.Outside.Chain.{Call, Read, Write, Flush, pieces, received, sent, stop_of, taken_by, not_taken, AllContinue}
+use Rattle.x86_streams.specs.Outside.Chain.{Cause, EndsIn, IsGone, Interruptions, Uninterrupted, ReadsOnce, WritesOnce, FlushesOnce, Calls}
+use Rattle.x86_streams.specs.Outside.Chain.{NoRead, WriterCalls, Puts, PutsByWrites, Sends, SendsAll}
 
 pub interrupted_more : {O : Type 0} (tries : O → Error → O → Type 0) (n : ℕ) (e : Error) (a b d : O) →
     Interruptions tries n a b → tries b e d → error_kind e ≡ Interrupted → Interruptions tries (n + 1) a d
@@ -100,7 +103,8 @@ module _ {W : Type 0} (writes : W → List ℕ → Result ℕ Error → W → Ty
       )
 
   -- what is held, and then a piece
-  pub puts_new : (gathers : Bool) (answer : Result ⊤ WriteFailed) (piece held held' new : List ℕ) (w w' : W) → gathers ≡ true → Sends writes flushes answer [] held held' w w' → OnOk answer (new ≡ held' ++ piece) → OnErr answer (new ≡ held') → (65536 < length held + length piece) →
+  pub puts_new : (gathers : Bool) (answer : Result ⊤ WriteFailed) (piece held held' new : List ℕ) (w w' : W) → gathers ≡ true →
+      Sends writes flushes answer [] held held' w w' → OnOk answer (new ≡ held' ++ piece) → OnErr answer (new ≡ held') → (65536 < length held + length piece) →
       Puts writes flushes gathers answer piece held new w w'
   puts_new gathers answer piece held held' new w w' on s is left full = record {
     rest = held' ++ piece;
@@ -132,44 +136,53 @@ module _ {W : Type 0} (writes : W → List ℕ → Result ℕ Error → W → Ty
 -- ---- calls as they are seen of a part
 
 -- what is seen of one part, which is called, and of another, which is left
-module _ {O P Q A : Type 0} (seen : O → P) (other : O → Q) (tries : O → Error → O → Type 0) (call : O → Result A Error → O → Type 0) (tries' : P → Error → P → Type 0) (call' : P → Result A Error → P → Type 0)
-    (tried : (u : O) (e : Error) (v : O) → tries u e v → tries' (seen u) e (seen v) × (other v ≡ other u)) (called : (u : O) (a : Result A Error) (v : O) → call u a v → call' (seen u) a (seen v) × (other v ≡ other u)) where
+module _ {O P Q A : Type 0} (seen : O → P) (other : O → Q) (tries : O → Error → O → Type 0) (call : O → Result A Error → O → Type 0)
+    (tries' : P → Error → P → Type 0) (call' : P → Result A Error → P → Type 0)
+    (tried : (u : O) (e : Error) (v : O) → tries u e v → tries' (seen u) e (seen v) × (other v ≡ other u))
+    (called : (u : O) (a : Result A Error) (v : O) → call u a v → call' (seen u) a (seen v) × (other v ≡ other u)) where
   interruptions_seen : (n : ℕ) (a b : O) → Interruptions tries n a b → Interruptions tries' n (seen a) (seen b) × (other b ≡ other a)
   interruptions_seen zero a b is = (ap seen is, ap other is)
   interruptions_seen (suc n) a b h =
       let before = interruptions_seen n a h.0 h.1 in
       let one = tried h.0 h.2.0 b h.2.1 in ((seen h.0, before.0, (h.2.0, one.0, h.2.2)), one.1 ∙ before.1)
 
-  call_seen : (answer : Result A Error) (o o' : O) → Uninterrupted tries call answer o o' → Uninterrupted tries' call' answer (seen o) (seen o') × (other o' ≡ other o)
+  call_seen : (answer : Result A Error) (o o' : O) → Uninterrupted tries call answer o o' →
+      Uninterrupted tries' call' answer (seen o) (seen o') × (other o' ≡ other o)
   call_seen answer o o' h =
       let before = interruptions_seen h.count o h.before h.interrupted in
       let last = called h.before answer o' h.answered in
       (record { count = h.count; before = seen h.before; interrupted = before.0; answered = last.0; final = h.final }, last.1 ∙ before.1)
 
 module _ {R W : Type 0} where
-  pub reads_reader : (reads : R → List ℕ → Result ℕ Error → R → Type 0) (buffer : List ℕ) (answer : Result ℕ Error) (s t : Joined R W) → ReadsOnce (ReadsReader reads) buffer answer s t →
+  pub reads_reader : (reads : R → List ℕ → Result ℕ Error → R → Type 0) (buffer : List ℕ) (answer : Result ℕ Error) (s t : Joined R W) →
+      ReadsOnce (ReadsReader reads) buffer answer s t →
       ReadsOnce reads buffer answer s.reader t.reader × (t.writer ≡ s.writer)
   reads_reader reads buffer = call_seen (λ s. s.reader) (λ s. s.writer) _ _ _ _ (λ u e v h. ((h.0, h.1.0), h.1.1)) (λ u a v h. h)
 
-  pub writes_writer : (writes : W → List ℕ → Result ℕ Error → W → Type 0) (bytes : List ℕ) (answer : Result ℕ Error) (s t : Joined R W) → WritesOnce (WritesWriter writes) bytes answer s t →
+  pub writes_writer : (writes : W → List ℕ → Result ℕ Error → W → Type 0) (bytes : List ℕ) (answer : Result ℕ Error) (s t : Joined R W) →
+      WritesOnce (WritesWriter writes) bytes answer s t →
       WritesOnce writes bytes answer s.writer t.writer × (t.reader ≡ s.reader)
   writes_writer writes bytes = call_seen (λ s. s.writer) (λ s. s.reader) _ _ _ _ (λ u e v h. h) (λ u a v h. h)
 
-  pub flushes_writer : (flushes : W → Result ⊤ Error → W → Type 0) (answer : Result ⊤ Error) (s t : Joined R W) → FlushesOnce (FlushesWriter flushes) answer s t →
+  pub flushes_writer : (flushes : W → Result ⊤ Error → W → Type 0) (answer : Result ⊤ Error) (s t : Joined R W) →
+      FlushesOnce (FlushesWriter flushes) answer s t →
       FlushesOnce flushes answer s.writer t.writer × (t.reader ≡ s.reader)
   flushes_writer flushes = call_seen (λ s. s.writer) (λ s. s.reader) _ _ _ _ (λ u e v h. h) (λ u a v h. h)
 
 -- what is seen of a chain of calls, and what all of them leave
 module _ {O P Q : Type 0} (seen : O → P) (other : O → Q) (reads writes : O → List ℕ → Result ℕ Error → O → Type 0) (flushes : O → Result ⊤ Error → O → Type 0)
     (reads' writes' : P → List ℕ → Result ℕ Error → P → Type 0) (flushes' : P → Result ⊤ Error → P → Type 0)
-    (read : (u : O) (buffer : List ℕ) (answer : Result ℕ Error) (v : O) → reads u buffer answer v → reads' (seen u) buffer answer (seen v) × (other v ≡ other u))
-    (write : (u : O) (bytes : List ℕ) (answer : Result ℕ Error) (v : O) → writes u bytes answer v → writes' (seen u) bytes answer (seen v) × (other v ≡ other u))
+    (read : (u : O) (buffer : List ℕ) (answer : Result ℕ Error) (v : O) → reads u buffer answer v → reads' (seen u) buffer answer (seen v)
+    × (other v ≡ other u))
+    (write : (u : O) (bytes : List ℕ) (answer : Result ℕ Error) (v : O) → writes u bytes answer v → writes' (seen u) bytes answer (seen v)
+    × (other v ≡ other u))
     (flush : (u : O) (answer : Result ⊤ Error) (v : O) → flushes u answer v → flushes' (seen u) answer (seen v) × (other v ≡ other u)) where
   pub calls_seen : (cs : List Call) (o o' : O) → Calls reads writes flushes cs o o' → Calls reads' writes' flushes' cs (seen o) (seen o') × (other o' ≡ other o)
   calls_seen [] o o' is = (ap seen is, ap other is)
   calls_seen (Read buffer answer ∷ cs) o o' did =
       let before = calls_seen cs o did.0 did.1 in
-      let one = call_seen seen other _ _ _ _ (λ u e v h. let is = read u h.0 (Err e) v h.1 in ((h.0, is.0), is.1)) (λ u a v h. read u buffer a v h) answer did.0 o' did.2 in
+      let one = call_seen seen other _ _ _ _ (λ u e v h. let is = read u h.0 (Err e) v h.1 in ((h.0, is.0), is.1))
+      (λ u a v h. read u buffer a v h) answer did.0 o' did.2 in
       ((seen did.0, before.0, one.0), one.1 ∙ before.1)
   calls_seen (Write bytes answer ∷ cs) o o' did =
       let before = calls_seen cs o did.0 did.1 in
@@ -181,7 +194,8 @@ module _ {O P Q : Type 0} (seen : O → P) (other : O → Q) (reads writes : O �
       ((seen did.0, before.0, one.0), one.1 ∙ before.1)
 
 -- Writes and flushes leave the reader.
-pub writers_leave_the_reader : {R W : Type 0} (writes : W → List ℕ → Result ℕ Error → W → Type 0) (flushes : W → Result ⊤ Error → W → Type 0) (cs : List Call) (s t : Joined R W) →
+pub writers_leave_the_reader : {R W : Type 0} (writes : W → List ℕ → Result ℕ Error → W → Type 0)
+    (flushes : W → Result ⊤ Error → W → Type 0) (cs : List Call) (s t : Joined R W) →
     WriterCalls (WritesWriter writes) (FlushesWriter flushes) cs s t → t.reader ≡ s.reader
 writers_leave_the_reader writes flushes cs s t did =
     (calls_seen (λ s. s) (λ s. s.reader) NoRead (WritesWriter writes) (FlushesWriter flushes) NoRead (WritesWriter writes) (FlushesWriter flushes)
@@ -189,7 +203,8 @@ writers_leave_the_reader writes flushes cs s t did =
 
 -- ---- what std says of its readers and writers
 
-module _ {O : Type 0} (view : O → Option (List ℕ)) (tries : O → Error → O → Type 0) (keeps : (u : O) (e : Error) (v : O) → tries u e v → Keeps (view u) (view v)) where
+module _ {O : Type 0} (view : O → Option (List ℕ)) (tries : O → Error → O → Type 0)
+    (keeps : (u : O) (e : Error) (v : O) → tries u e v → Keeps (view u) (view v)) where
   interruptions_keep : (n : ℕ) (a b : O) → Interruptions tries n a b → Keeps (view a) (view b)
   interruptions_keep zero a b is = rw is (Keeps-refl (view a))
   interruptions_keep (suc n) a b h = Keeps-trans (view a) (view h.0) (view b) (interruptions_keep n a h.0 h.1) (keeps h.0 h.2.0 b h.2.1)
@@ -207,14 +222,16 @@ module _ {W : Type 0} (contents : W → Option (List ℕ)) where
   abbrev pub StdFlushes : W → Result ⊤ Error → W → Type 0
   StdFlushes w answer v = Keeps (contents w) (contents v)
 
-  pub write_appends : (bytes : List ℕ) (answer : Result ℕ Error) (w w' : W) → WritesOnce StdWrites bytes answer w w' → WriteAppends (contents w) (contents w') answer bytes
+  pub write_appends : (bytes : List ℕ) (answer : Result ℕ Error) (w w' : W) → WritesOnce StdWrites bytes answer w w' →
+      WriteAppends (contents w) (contents w') answer bytes
   write_appends bytes answer w w' h =
       let kept = interruptions_keep contents _ (λ u e v tried. tried) h.count w h.before h.interrupted in
       let answered = h.answered in grind arith
 
   pub flush_keeps : (answer : Result ⊤ Error) (w w' : W) → FlushesOnce StdFlushes answer w w' → Keeps (contents w) (contents w')
   flush_keeps answer w w' h =
-      Keeps-trans (contents w) (contents h.before) (contents w') (interruptions_keep contents _ (λ u e v tried. tried) h.count w h.before h.interrupted) h.answered
+      Keeps-trans (contents w) (contents h.before) (contents w')
+      (interruptions_keep contents _ (λ u e v tried. tried) h.count w h.before h.interrupted) h.answered
 
   -- Calls of the writer append what it took.
   calls_append : (cs : List Call) (w w' : W) → WriterCalls StdWrites StdFlushes cs w w' → Appends (contents w) (contents w') (sent cs)
@@ -223,12 +240,15 @@ module _ {W : Type 0} (contents : W → Option (List ℕ)) where
   calls_append (Write bytes answer ∷ cs) w w' did =
       let before = calls_append cs w did.0 did.1 in
       let wrote = write_appends bytes answer did.0 w' did.2 in grind (arith, append_assoc {A = ℕ}, append-nil {A = ℕ})
-  calls_append (Flush answer ∷ cs) w w' did = Appends-kept (contents w) (contents did.0) (contents w') (sent cs) (calls_append cs w did.0 did.1) (flush_keeps answer did.0 w' did.2)
+  calls_append (Flush answer ∷ cs) w w' did = Appends-kept (contents w) (contents did.0) (contents w') (sent cs)
+      (calls_append cs w did.0 did.1) (flush_keeps answer did.0 w' did.2)
 
   -- A put by writes appends what they took.
-  pub put_reports : (r : Result ⊤ SinkFailed) (piece : List ℕ) (w w' : W) (old new : ℕ) → PutsByWrites StdWrites StdFlushes r piece w w' → CountsPut r old new → ReportsPut r piece (contents w) (contents w') old new
+  pub put_reports : (r : Result ⊤ SinkFailed) (piece : List ℕ) (w w' : W) (old new : ℕ) → PutsByWrites StdWrites StdFlushes r piece w w' →
+      CountsPut r old new → ReportsPut r piece (contents w) (contents w') old new
   put_reports (Ok done) piece w w' old new (Ok all, rest, s, none, same) count =
-      let whole : sent s.calls ≡ piece = sym (append-nil (sent s.calls)) ∙ (rw none at s.order) ∙ append-nil piece in (rw whole at (calls_append s.calls w w' s.did), count)
+      let whole : sent s.calls ≡ piece = sym (append-nil (sent s.calls)) ∙ (rw none at s.order) ∙ append-nil piece in
+      (rw whole at (calls_append s.calls w w' s.did), count)
   put_reports (Ok done) piece w w' old new (Err e, rest, s, none, same) count = let never = same.1 refl in cc
   put_reports (Err e) piece w w' old new (answer, rest, s, none, same) count =
       let part : take (length (sent s.calls)) piece ≡ sent s.calls = rw (← append-nil piece, ← s.order) (take-append_seam (sent s.calls) rest) in
@@ -236,12 +256,16 @@ module _ {W : Type 0} (contents : W → Option (List ℕ)) where
 
 -- What is returned of what is held, and else of a read, is the next of the bytes that are left.
 module _ {R : Type 0} (left : R → Option (List ℕ)) where
-  pub next_reports : (held : List ℕ) (g : Got) (held' : List ℕ) (r r' : R) (old new : ℕ) → ReturnsNext (λ s b a t. ReadConsumes (left s) (left t) a b) held g held' r r' → CountsFailed g old new →
+  pub next_reports : (held : List ℕ) (g : Got) (held' : List ℕ) (r r' : R) (old new : ℕ) →
+      ReturnsNext (λ s b a t. ReadConsumes (left s) (left t) a b) held g held' r r' → CountsFailed g old new →
       ReportsGot g (prepend_known held (left r)) (prepend_known held' (left r')) old new
   next_reports (b ∷ bs) g held' r r' old new h count = grind arith
-  next_reports [] (Got.Byte b) held' r r' old new (buffer, block, Ok n, read, says) count = let told = read_consumes left buffer (Ok n) r r' read in grind (arith, prepend_known-nil)
-  next_reports [] Got.End held' r r' old new (buffer, block, Ok n, read, says) count = let told = read_consumes left buffer (Ok n) r r' read in grind (arith, prepend_known-nil)
-  next_reports [] Got.Failed held' r r' old new (buffer, block, Err e, read, says) count = let told = read_consumes left buffer (Err e) r r' read in grind (arith, prepend_known-nil)
+  next_reports [] (Got.Byte b) held' r r' old new (buffer, block, Ok n, read, says) count = let told =
+      read_consumes left buffer (Ok n) r r' read in grind (arith, prepend_known-nil)
+  next_reports [] Got.End held' r r' old new (buffer, block, Ok n, read, says) count = let told = read_consumes left buffer (Ok n) r r' read
+      in grind (arith, prepend_known-nil)
+  next_reports [] Got.Failed held' r r' old new (buffer, block, Err e, read, says) count = let told =
+      read_consumes left buffer (Err e) r r' read in grind (arith, prepend_known-nil)
   next_reports [] (Got.Byte b) held' r r' old new (buffer, block, Err e, read, says) count = absurd says
   next_reports [] Got.End held' r r' old new (buffer, block, Err e, read, says) count = absurd says
   next_reports [] Got.Failed held' r r' old new (buffer, block, Ok n, read, says) count = absurd says

@@ -17,7 +17,8 @@ module _ {E : Type 0} {CALLS BYTES : ℕ} where
   nothing : (s : Record E CALLS BYTES) → s.is_full ≡ false → Adds [] [] [] s s
   nothing s free = (free, sym (append-nil s.events.items), sym (append-nil s.read.items), sym (append-nil s.written.items))
 
-  joined : (es fs : List Event) (rs qs ws vs : List ℕ) (s t u : Record E CALLS BYTES) → Adds es rs ws s t → Adds fs qs vs t u → Adds (es ++ fs) (rs ++ qs) (ws ++ vs) s u
+  joined : (es fs : List Event) (rs qs ws vs : List ℕ) (s t u : Record E CALLS BYTES) → Adds es rs ws s t → Adds fs qs vs t u →
+      Adds (es ++ fs) (rs ++ qs) (ws ++ vs) s u
   joined es fs rs qs ws vs s t u a b = (
     a.0,
     b.1 ∙ ap (λ x. x ++ fs) a.1 ∙ append_assoc s.events.items es fs,
@@ -26,22 +27,30 @@ module _ {E : Type 0} {CALLS BYTES : ℕ} where
   )
 
   -- a call, after some tries of it that were interrupted
-  module _ {A : Type 0} (c : Call) (tries : Record E CALLS BYTES → Error → Record E CALLS BYTES → Type 0) (call : Record E CALLS BYTES → Result A Error → Record E CALLS BYTES → Type 0)
-      (tried : (u : Record E CALLS BYTES) (e : Error) (v : Record E CALLS BYTES) → tries u e v → error_kind e ≡ Interrupted → v.is_full ≡ false → Adds (interrupted c ∷ []) [] [] u v) where
+  module _ {A : Type 0} (c : Call) (tries : Record E CALLS BYTES → Error → Record E CALLS BYTES → Type 0)
+      (call : Record E CALLS BYTES → Result A Error → Record E CALLS BYTES → Type 0)
+      (tried : (u : Record E CALLS BYTES) (e : Error) (v : Record E CALLS BYTES) → tries u e v → error_kind e ≡ Interrupted →
+      v.is_full ≡ false → Adds (interrupted c ∷ []) [] [] u v) where
     repeated : (n : ℕ) (s t : Record E CALLS BYTES) → Interruptions tries n s t → t.is_full ≡ false → Adds (replicate n (interrupted c)) [] [] s t
     repeated zero s t is free = rw is (nothing s (rw is at free))
     repeated (suc n) s t h free =
         let last = tried h.0 h.2.0 t h.2.1 h.2.2 free in
         rw replicate_last at (joined (replicate n (interrupted c)) (interrupted c ∷ []) [] [] [] [] s h.0 t (repeated n s h.0 h.1 last.0) last)
 
-    once : (answer : Result A Error) (s t : Record E CALLS BYTES) → ((u v : Record E CALLS BYTES) → call u answer v → v.is_full ≡ false → Adds (event_of c ∷ []) (received (c ∷ [])) (sent (c ∷ [])) u v) →
-        Uninterrupted tries call answer s t → t.is_full ≡ false → (n : ℕ) × Adds (replicate n (interrupted c) ++ event_of c ∷ []) (received (c ∷ [])) (sent (c ∷ [])) s t
+    once : (answer : Result A Error) (s t : Record E CALLS BYTES) →
+        ((u v : Record E CALLS BYTES) → call u answer v → v.is_full ≡ false → Adds (event_of c ∷ []) (received (c ∷ [])) (sent (c ∷ [])) u v) →
+        Uninterrupted tries call answer s t → t.is_full ≡ false → (n : ℕ)
+        × Adds (replicate n (interrupted c) ++ event_of c ∷ []) (received (c ∷ [])) (sent (c ∷ [])) s t
     once answer s t called h free =
-        let last = called h.before t h.answered free in
-        (h.count, joined (replicate h.count (interrupted c)) (event_of c ∷ []) [] (received (c ∷ [])) [] (sent (c ∷ [])) s h.before t (repeated h.count s h.before h.interrupted last.0) last)
+        let last = called h.before t h.answered free in (
+          h.count,
+          joined (replicate h.count (interrupted c)) (event_of c ∷ []) [] (received (c ∷ [])) [] (sent (c ∷ [])) s h.before t
+              (repeated h.count s h.before h.interrupted last.0) last,
+        )
 
   -- what was made and recorded
-  recorded : {A : Type 0} (c : Call) (answer : Result A Error) (made : Type 0) (u v : Record E CALLS BYTES) → Records c answer made u v → v.is_full ≡ false → Adds (event_of c ∷ []) (received (c ∷ [])) (sent (c ∷ [])) u v
+  recorded : {A : Type 0} (c : Call) (answer : Result A Error) (made : Type 0) (u v : Record E CALLS BYTES) → Records c answer made u v →
+      v.is_full ≡ false → Adds (event_of c ∷ []) (received (c ∷ [])) (sent (c ∷ [])) u v
   recorded c (Ok x) made u v h free = h.1
   recorded c (Err e) made u v h free = (h free).1
 
@@ -57,11 +66,15 @@ module _ {E : Type 0} {CALLS BYTES : ℕ} where
       (all, (b.0, l.0, b.1, refl), rw (got, gone, ← is) (joined b.0 _ (received cs) _ (sent cs) _ s t u b.2 l.1))
 
   module _ (reads writes : E → List ℕ → Result ℕ Error → E → Type 0) (flushes : E → Result ⊤ Error → E → Type 0) where
-    pub records : (cs : List Call) (s t : Record E CALLS BYTES) → Calls (RecordsRead reads) (RecordsWrite writes) (RecordsFlush flushes) cs s t → IsRecordOf cs s t
+    pub records : (cs : List Call) (s t : Record E CALLS BYTES) →
+        Calls (RecordsRead reads) (RecordsWrite writes) (RecordsFlush flushes) cs s t → IsRecordOf cs s t
     records [] s t is = λ free. ([], refl, rw is (nothing s (rw is at free)))
     records (Read buffer answer ∷ cs) s t did = more (Read buffer answer) cs s did.0 t (records cs s did.0 did.1)
-        (once (Read buffer answer) _ _ (λ u e v h is free. rw is at (h.1 free).1) answer did.0 t (λ u v h free. recorded (Read buffer answer) answer _ u v h free) did.2) refl (sym (append-nil (sent cs)))
+        (once (Read buffer answer) _ _ (λ u e v h is free. rw is at (h.1 free).1) answer did.0 t
+        (λ u v h free. recorded (Read buffer answer) answer _ u v h free) did.2) refl (sym (append-nil (sent cs)))
     records (Write bytes answer ∷ cs) s t did = more (Write bytes answer) cs s did.0 t (records cs s did.0 did.1)
-        (once (Write bytes answer) _ _ (λ u e v h is free. rw is at (h free).1) answer did.0 t (λ u v h free. recorded (Write bytes answer) answer _ u v h free) did.2) (sym (append-nil (received cs))) refl
+        (once (Write bytes answer) _ _ (λ u e v h is free. rw is at (h free).1) answer did.0 t
+        (λ u v h free. recorded (Write bytes answer) answer _ u v h free) did.2) (sym (append-nil (received cs))) refl
     records (Flush answer ∷ cs) s t did = more (Flush answer) cs s did.0 t (records cs s did.0 did.1)
-        (once (Flush answer) _ _ (λ u e v h is free. rw is at (h free).1) answer did.0 t (λ u v h free. recorded (Flush answer) answer _ u v h free) did.2) (sym (append-nil (received cs))) (sym (append-nil (sent cs)))
+        (once (Flush answer) _ _ (λ u e v h is free. rw is at (h free).1) answer did.0 t
+        (λ u v h free. recorded (Flush answer) answer _ u v h free) did.2) (sym (append-nil (received cs))) (sym (append-nil (sent cs)))

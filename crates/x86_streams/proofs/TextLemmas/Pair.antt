@@ -1,5 +1,6 @@
 -- Sequences of blanks and pairs.
-use Rattle.std.proofs.Common.{if◌then◌else◌, ◌≡◌, ℕ, zero, suc, ◌+◌, ◌<◌, List, [], ◌∷◌, ◌++◌, length, take, refl, arith, Option, Some, None, Bool, true, nat_lt}
+use Rattle.std.proofs.Common.{if◌then◌else◌, ◌≡◌, ℕ, zero, suc, ◌+◌, ◌<◌, List, [], ◌∷◌, ◌++◌, length, take, refl, arith, Option, Some}
+use Rattle.std.proofs.Common.{None, Bool, true, nat_lt}
 use Rattle.std.proofs.Math.Seq.{take-length}
 use Rattle.std.specs.List.{flat_map}
 use Rattle.std.specs.Option.{option_map}
@@ -18,7 +19,8 @@ items_bad [] half each ok = grind (arith, value-blank)
 items_bad (blank b ∷ items) half each ok = grind (arith, items_bad items half each.1 ok, of-blank, value-blank)
 items_bad (pair a b ∷ items) half each ok = grind (arith, items_bad items half each.2 ok, value-blank)
 
-sequence_bad : (bytes image half : List ℕ) → IsSequence bytes image half → (bad_of bytes ≡ None) × (image_of bytes ≡ image) × (ends_in_half bytes ≡ is_half half)
+sequence_bad : (bytes image half : List ℕ) → IsSequence bytes image half → (bad_of bytes ≡ None) × (image_of bytes ≡ image)
+    × (ends_in_half bytes ≡ is_half half)
 sequence_bad bytes image half s = rw (s.whole, s.values) (items_bad s.items half s.each s.half_pair)
 
 -- to a sequence

@@ -1,11 +1,13 @@
 -- What blanks and pairs at the beginning of a text say of it.
-use Rattle.std.proofs.Common.{add-zero, ◌≡◌, ℕ, zero, suc, ◌+◌, ◌*◌, ◌%◌, ◌<◌, ◌≤◌, List, [], ◌∷◌, ◌++◌, length, take, set, slice_index_or, arith, Some, true, false, append_assoc, length-append}
+use Rattle.std.proofs.Common.{add-zero, ◌≡◌, ℕ, zero, suc, ◌+◌, ◌*◌, ◌%◌, ◌<◌, ◌≤◌, List, [], ◌∷◌, ◌++◌, length, take, set, slice_index_or}
+use Rattle.std.proofs.Common.{arith, Some, true, false, append_assoc, length-append}
 use Rattle.std.proofs.lemmas.List.{take_more, get_or-set_same, get_or-set_other}
 use Rattle.x86_streams.specs.Text.{is_blank, value_of}
 use Rattle.x86_streams.specs.Text.Spells.{Spells}
 use Rattle.x86_streams.proofs.TextLemmas.Text.{text-blank, text-pair, value-blank}
 
-pub spells_blank : (text : List ℕ) (at : ℕ) (vs : List ℕ) → Spells text at vs → at < length text → is_blank (slice_index_or text at 0) ≡ true → Spells text (at + 1) vs
+pub spells_blank : (text : List ℕ) (at : ℕ) (vs : List ℕ) → Spells text at vs → at < length text →
+    is_blank (slice_index_or text at 0) ≡ true → Spells text (at + 1) vs
 spells_blank text at vs s inside blank =
     let x = slice_index_or text at 0 in
     record {
@@ -39,7 +41,8 @@ module _ (text values values' digits : List ℕ) (at count run : ℕ) (s : Spell
     (shown : (k : ℕ) → k < 32 → slice_index_or digits k 0 < 16 → value_of (slice_index_or text (at + k) 0) ≡ Some (slice_index_or digits k 0))
     (small : (k : ℕ) → k < 2 * run → slice_index_or digits k 0 < 16)
     (before : take count values' ≡ take count values)
-    (put : (k : ℕ) → k < 16 → slice_index_or values' (count + k) 0 ≡ 16 * (slice_index_or digits (2 * k) 0 % 16) + slice_index_or digits (2 * k + 1) 0 % 16) where
+    (put : (k : ℕ) → k < 16 → slice_index_or values' (count + k) 0 ≡ 16 * (slice_index_or digits (2 * k) 0 % 16) + slice_index_or digits
+    (2 * k + 1) 0 % 16) where
   pub spells_run : (j : ℕ) → j ≤ run → Spells text (at + 2 * j) (take (count + j) values')
   spells_run zero le = rw (add-zero, add-zero, before) s
   spells_run (suc j) le =

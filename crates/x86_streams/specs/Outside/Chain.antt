@@ -1,5 +1,6 @@
 -- The calls of what is read from and written to, in one order.
-use Rattle.std.specs.Prelude.{◌≡◌, ℕ, zero, suc, ◌+◌, ◌<◌, ◌≤◌, Bool, IsTrue, true, false, ◌↔◌, List, [], ◌∷◌, ◌++◌, length, take, Option, Some, None, Result, Ok, Err, IfErr, IsErr, OnErr, OnOk, ⊤}
+use Rattle.std.specs.Prelude.{◌≡◌, ℕ, zero, suc, ◌+◌, ◌<◌, ◌≤◌, Bool, IsTrue, true, false, ◌↔◌, List, [], ◌∷◌, ◌++◌, length, take, Option}
+use Rattle.std.specs.Prelude.{Some, None, Result, Ok, Err, IfErr, IsErr, OnErr, OnOk, ⊤}
 use Rattle.std.specs.Io.{StartsWith}
 use Rattle.std.specs.declared.io.Error.{Error}
 use Rattle.std.specs.declared.io.ErrorKind.TheVariants.{Interrupted, BrokenPipe}
@@ -81,7 +82,8 @@ Interruptions {O} tries (suc n) o o' = (u : O) × Interruptions tries n o u × (
 
 -- A call was made, again after each interruption, and then answered so. An interruption is the answer only after
 -- 2^64 - 1 others.
-pub record Uninterrupted {O A : Type 0} (tries : O → Error → O → Type 0) (call : O → Result A Error → O → Type 0) (answer : Result A Error) (o o' : O) : Type 0 where
+pub record Uninterrupted {O A : Type 0} (tries : O → Error → O → Type 0) (call : O → Result A Error → O → Type 0) (answer : Result A Error)
+    (o o' : O) : Type 0 where
   pub count : ℕ
   pub before : O
   pub interrupted : Interruptions tries count o before
@@ -146,11 +148,13 @@ module _ {W : Type 0} (writes : W → List ℕ → Result ℕ Error → W → Ty
 
   -- A put of a piece is its writes, and fails exactly where one of them did.
   abbrev pub PutsByWrites : Result ⊤ SinkFailed → List ℕ → W → W → Type 0
-  PutsByWrites r piece w w' = (answer : Result ⊤ WriteFailed) × (rest : List ℕ) × Sends answer [] piece rest w w' × OnOk answer (rest ≡ []) × (IsErr r ↔ IsErr answer)
+  PutsByWrites r piece w w' = (answer : Result ⊤ WriteFailed) × (rest : List ℕ) × Sends answer [] piece rest w w' × OnOk answer (rest ≡ [])
+      × (IsErr r ↔ IsErr answer)
 
   -- All that was held is sent, and the writer is flushed. Where nothing was held, nothing is written.
   abbrev pub SendsAll : Result ⊤ WriteFailed → List ℕ → List ℕ → W → W → Type 0
-  SendsAll answer held held' w w' = (s : Sends answer [] held held' w w') × OnOk answer ((held' ≡ []) × EndsIn IsFlush s.calls) × (held ≡ [] → pieces s.calls ≡ [])
+  SendsAll answer held held' w w' = (s : Sends answer [] held held' w w') × OnOk answer ((held' ≡ []) × EndsIn IsFlush s.calls)
+      × (held ≡ [] → pieces s.calls ≡ [])
 
   -- A piece was taken, after what was held. Where nothing is gathered, that was one write of it.
   pub record Puts (gathers : Bool) (answer : Result ⊤ WriteFailed) (piece old new : List ℕ) (w w' : W) : Type 0 where

@@ -28,7 +28,8 @@ pub record IsOpenText (text : List ℕ) (room : ℕ) : Type 0 where
 
 abbrev pub IsBeginning : Beginning → List ℕ → ℕ → Type 0
 IsBeginning Blank text room = (1 ≤ length text) × (1 ≤ room) × Is text room (λ p xs s. text_at (p + 1) (room - 1) (drop 1 text ++ xs) s)
-IsBeginning (Pair v) text room = (2 ≤ length text) × (2 ≤ room) × Is text room (λ p xs s. with_bytes (v ∷ []) (text_at (p + 2) (room - 2) (drop 2 text ++ xs) s))
+IsBeginning (Pair v) text room = (2 ≤ length text) × (2 ≤ room)
+    × Is text room (λ p xs s. with_bytes (v ∷ []) (text_at (p + 2) (room - 2) (drop 2 text ++ xs) s))
 IsBeginning (Bad n) text room = (n < length text) × (n < room) × Is text room (λ p xs s. ended (ending.Bad (p + n)))
 IsBeginning Large text room = Is text room (λ p xs s. ended ending.Large)
 IsBeginning Open text room = IsOpenText text room

@@ -64,7 +64,8 @@ pub record Steps (window : List ℕ) (text : TextPosition) (ended' : Option Endi
   pub turns : turns_left ended' window' text' < turns_left None window text
 
 -- A read was made, and what it returned is after what was left, or the text ended.
-pub record Fills {R : Type 0} (reads : R → List ℕ → Result ℕ Error → R → Type 0) (window : List ℕ) (text : TextPosition) (ended' : Option Ending) (text' : TextPosition) (r r' : R) : Type 0 where
+pub record Fills {R : Type 0} (reads : R → List ℕ → Result ℕ Error → R → Type 0) (window : List ℕ) (text : TextPosition)
+    (ended' : Option Ending) (text' : TextPosition) (r r' : R) : Type 0 where
   pub buffer : List ℕ
   pub block : 65536 ≤ length buffer
   pub answer : Result ℕ Error

@@ -19,4 +19,5 @@ returns-clause-listed g c command outcome s t up h = sent_up_to_refusal c.decode
 
 pub returns-clause-swept : goal.returns-clause-swept
 returns-clause-swept g c outcome s t h =
-    sent_all (task_of (Request.Reads Command.Sweep)) (λ bytes. length bytes + 30 ≤ 67108864) (sweep_knows false (c.decoder_laws.ensures false) (c.lengths.ensures.short false)) h.calls h.rule
+    sent_all (task_of (Request.Reads Command.Sweep)) (λ bytes. length bytes + 30 ≤ 67108864)
+    (sweep_knows false (c.decoder_laws.ensures false) (c.lengths.ensures.short false)) h.calls h.rule

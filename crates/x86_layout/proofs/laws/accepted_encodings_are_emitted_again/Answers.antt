@@ -7,4 +7,5 @@ use Rattle.x86_layout.proofs.laws.accepted_encodings_are_emitted_again.Goals as 
 
 pub returns : goal.returns
 returns c = λ strict bytes i f h e.
-    emitted_again strict bytes i f (subst (λ r. IsAnswer (rows_of packed) strict bytes r (count_of strict bytes)) h (c.answer_is.ensures.there strict bytes)) (c.lengths.ensures.counted strict bytes i h) e
+    emitted_again strict bytes i f (subst (λ r. IsAnswer (rows_of packed) strict bytes r (count_of strict bytes)) h
+    (c.answer_is.ensures.there strict bytes)) (c.lengths.ensures.counted strict bytes i h) e

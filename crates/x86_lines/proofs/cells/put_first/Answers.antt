@@ -16,4 +16,5 @@ laid d b at m n whole room few =
     ∙ ap (λ xs. take at d ++ xs) (take-take n m b few)
 
 pub returns-clause-text : goal.returns-clause-text
-returns-clause-text g c = laid c.args.cells.now c.args.block.now c.args.at g.row.M c.args.count (omega (arith, c.told-block)) (omega (arith, c.requires.room)) c.requires.count
+returns-clause-text g c = laid c.args.cells.now c.args.block.now c.args.at g.row.M c.args.count (omega (arith, c.told-block))
+    (omega (arith, c.requires.room)) c.requires.count

@@ -9,7 +9,8 @@ encode_append [] b = refl
 encode_append (x ∷ xs) b = let e = encode_append xs b in cc
 
 -- one byte more
-more : (start line part pair whole : List ℕ) (i : ℕ) → i < length part → line ≡ start ++ encode_lower (take i part) → pair ≡ encode_lower (get_or part i 0 ∷ []) →
+more : (start line part pair whole : List ℕ) (i : ℕ) → i < length part → line ≡ start ++ encode_lower (take i part) →
+    pair ≡ encode_lower (get_or part i 0 ∷ []) →
     whole ≡ line ++ pair → whole ≡ start ++ encode_lower (take (i + 1) part)
 more start line part pair whole i below e p w =
     let step : encode_lower (take i part) ++ pair ≡ encode_lower (take (i + 1) part) =

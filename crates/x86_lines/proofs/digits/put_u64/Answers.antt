@@ -3,7 +3,15 @@ use Rattle.std.proofs.lemmas.Fmt.{length-decimal-le}
 use Rattle.x86_lines.proofs.digits.put_u64.Goals as goal
 
 pub put_decimal-requires : goal.put_decimal-requires
-put_decimal-requires c = omega (arith, c.requires, length-decimal-le 20 c.args.n (omega arith) (omega (arith, c.ranges.n.fits)) (omega (arith, c.ranges.n.fits)))
+put_decimal-requires c = omega (
+  arith,
+  c.requires,
+  length-decimal-le 20 c.args.n (omega arith) (omega (arith, c.ranges.n.fits)) (omega (arith, c.ranges.n.fits)),
+)
 
 pub returns-clause-short : goal.returns-clause-short
-returns-clause-short c = omega (arith, c.put_decimal.ensures.place, length-decimal-le 20 c.args.n (omega arith) (omega (arith, c.ranges.n.fits)) (omega (arith, c.ranges.n.fits)))
+returns-clause-short c = omega (
+  arith,
+  c.put_decimal.ensures.place,
+  length-decimal-le 20 c.args.n (omega arith) (omega (arith, c.ranges.n.fits)) (omega (arith, c.ranges.n.fits)),
+)

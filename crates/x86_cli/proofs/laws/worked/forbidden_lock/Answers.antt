@@ -1,6 +1,6 @@
 use Rattle.std.proofs.Common.{arith}
-use Rattle.x86_cli.proofs.WorkedLemmas.{decided, forbidden_lock_decides}
+use Rattle.x86_cli.proofs.WorkedLemmas.{erring, forbidden_lock_errs}
 use Rattle.x86_cli.proofs.laws.worked.forbidden_lock.Goals as goal
 
 pub returns : goal.returns
-returns c = decided c.headline_of_bytes.ensures _ _ forbidden_lock_decides (λ strict rest. c.decided_bytes_are_refused.ensures _ strict _ rest _ (omega arith))
+returns c = erring c.headline_of_bytes.ensures _ _ (λ same. cc) (omega arith) forbidden_lock_errs

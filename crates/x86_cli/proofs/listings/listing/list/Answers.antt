@@ -18,18 +18,27 @@ lines-preserved-in-Line g c =
     record {
       image = c.lines.invariant.image ++ take c.in-Line.length c.take_known.new.self.bytes.items;
       live = rw (c.advance.ensures, c.leave.ensures) (live_line _ _ _ _ _ _ _ _ _ _ _ _ _ _ _ s _ _ _ _ step.2 step.3 c.in-Ok.ensures);
-      fits = omega (arith, simp length-drop at (ap length c.leave.ensures), c.take_known.ensures.takes.fits.0, c.lines.invariant.fits, step.1, c.advance.ensures);
+      fits = omega (
+        arith,
+        simp length-drop at (ap length c.leave.ensures),
+        c.take_known.ensures.takes.fits.0,
+        c.lines.invariant.fits,
+        step.1,
+        c.advance.ensures,
+      );
     }
 
 pub returns-in-Err : goal.returns-in-Err
 returns-in-Err g c =
     let s = live_take _ _ _ _ _ _ _ _ _ _ _ _ _ _ _ c.lines.invariant.live _ _ _ c.take_known.ensures.ended c.take_known.ensures.takes in
-    live_unput _ _ _ _ _ _ _ _ _ _ _ _ _ _ _ s _ c.in-Err.failed _ _ _ _ c.of_failed.ensures.status c.of_failed.ensures.gone c.in-Line.ensures.next.2 c.in-Err.ensures
+    live_unput _ _ _ _ _ _ _ _ _ _ _ _ _ _ _ s _ c.in-Err.failed _ _ _ _ c.of_failed.ensures.status c.of_failed.ensures.gone
+    c.in-Line.ensures.next.2 c.in-Err.ensures
 
 pub returns-in-Err-send_all : goal.returns-in-Err-send_all
 returns-in-Err-send_all g c =
     let s = live_take _ _ _ _ _ _ _ _ _ _ _ _ _ _ _ c.lines.invariant.live _ _ _ c.take_known.ensures.ended c.take_known.ensures.takes in
-    live_unsent _ _ _ _ _ _ _ _ _ _ _ _ _ _ _ s _ c.in-Err-send_all.failed _ _ c.of_failed-in-Err-send_all.ensures.status c.of_failed-in-Err-send_all.ensures.gone c.in-Err-send_all.ensures
+    live_unsent _ _ _ _ _ _ _ _ _ _ _ _ _ _ _ s _ c.in-Err-send_all.failed _ _ c.of_failed-in-Err-send_all.ensures.status
+    c.of_failed-in-Err-send_all.ensures.gone c.in-Err-send_all.ensures
 
 pub lines-preserved-then-not-step : goal.lines-preserved-then-not-step
 lines-preserved-then-not-step g c =
@@ -38,8 +47,15 @@ lines-preserved-then-not-step g c =
     let f = rw same at c.fill.ensures.fills in
     record {
       image = c.lines.invariant.image;
-      live = rw (c.fill.ensures.bytes, same) (live_fill _ _ _ _ _ _ _ _ _ _ _ _ _ _ (rw c.in-Undecided.ensures.next.0 at s) _ _ _ _ _ c.in-Ok-send_all.ensures (c.step.ensures.open c.if-not-step.true) c.in-Undecided.ensures.next.2 f);
-      fits = omega (arith, ap (λ b. length b.items) (c.fill.ensures.bytes ∙ ap (λ w. w.bytes) same), f.fits.0, c.take_known.ensures.takes.fits.0, c.lines.invariant.fits);
+      live = rw (c.fill.ensures.bytes, same) (live_fill _ _ _ _ _ _ _ _ _ _ _ _ _ _ (rw c.in-Undecided.ensures.next.0 at s) _ _ _ _ _
+          c.in-Ok-send_all.ensures (c.step.ensures.open c.if-not-step.true) c.in-Undecided.ensures.next.2 f);
+      fits = omega (
+        arith,
+        ap (λ b. length b.items) (c.fill.ensures.bytes ∙ ap (λ w. w.bytes) same),
+        f.fits.0,
+        c.take_known.ensures.takes.fits.0,
+        c.lines.invariant.fits,
+      );
     }
 
 pub returns-in-Refused : goal.returns-in-Refused

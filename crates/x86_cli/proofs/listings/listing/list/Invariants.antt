@@ -6,7 +6,8 @@ use Rattle.x86_cli.proofs.listings.listing.list.Given as goal
 abbrev pub invariant-lines : goal.invariant-lines
 invariant-lines g l = record {
   image : List ℕ;
-  live : Live g.O.Input.reads g.O.Output.writes g.O.Output.flushes g.O.Output.gathers (g.C.Course.lists l.course l.decoder.strict) (g.C.Course.knows l.course l.decoder.strict) l.fn.max l.fn.streams
+  live : Live g.O.Input.reads g.O.Output.writes g.O.Output.flushes g.O.Output.gathers (g.C.Course.lists l.course l.decoder.strict)
+      (g.C.Course.knows l.course l.decoder.strict) l.fn.max l.fn.streams
       image l.place l.window.ended l.window.bytes.items l.window.text l.out.bytes.items l.streams;
   fits : l.place + length l.window.bytes.items + l.window.text.room ≤ l.fn.max;
 }

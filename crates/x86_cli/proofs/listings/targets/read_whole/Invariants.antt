@@ -6,7 +6,8 @@ use Rattle.x86_cli.proofs.listings.targets.read_whole.Given as goal
 
 abbrev pub invariant-windows : goal.invariant-windows
 invariant-windows g l = record {
-  whole : Whole g.O.Input.reads g.O.Output.writes g.O.Output.flushes g.O.Output.gathers l.fn.max l.fn.streams l.image.items l.window.ended l.window.bytes.items l.window.text l.streams;
+  whole : Whole g.O.Input.reads g.O.Output.writes g.O.Output.flushes g.O.Output.gathers l.fn.max l.fn.streams l.image.items l.window.ended
+      l.window.bytes.items l.window.text l.streams;
   fits : 2 * array_vec_len l.image + 2 * length l.window.bytes.items + l.window.text.room ≤ l.fn.max;
 }
 

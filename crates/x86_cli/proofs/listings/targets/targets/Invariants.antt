@@ -6,4 +6,6 @@ use Rattle.x86_cli.proofs.listings.targets.targets.Given as goal
 
 abbrev pub invariant-places : goal.invariant-places
 invariant-places g l =
-    Live g.O.Input.reads g.O.Output.writes g.O.Output.flushes g.O.Output.gathers (targets_at l.decoder.strict) ends_of l.fn.max l.fn.streams [] l.place (Some l.text.ending) l.text.image.items (record { position = 0; room = 0; unread = [] }) l.out.bytes.items l.streams
+    Live g.O.Input.reads g.O.Output.writes g.O.Output.flushes g.O.Output.gathers
+    (targets_at l.decoder.strict) ends_of l.fn.max l.fn.streams [] l.place (Some l.text.ending) l.text.image.items
+    (record { position = 0; room = 0; unread = [] }) l.out.bytes.items l.streams

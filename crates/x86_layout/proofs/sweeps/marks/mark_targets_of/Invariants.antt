@@ -11,4 +11,5 @@ invariant-loop-cut l =
     (goal.iterator-loop-cut).can_next l.cut-iterator ×
     (goal.iterator-loop-cut).is_finite l.cut-iterator ×
     All (IsWithin (length l.fn.bytes)) (cuts_left l.cut-iterator) ×
-    ((p : ℕ) → p < length l.initial.marks → (slice_index_or l.marks p false || list_any (targets p) (cuts_left l.cut-iterator)) ≡ (slice_index_or l.initial.marks p false || list_any (targets p) (cuts_of l.fn.decoder.strict l.fn.bytes)))
+    ((p : ℕ) → p < length l.initial.marks → (slice_index_or l.marks p false || list_any (targets p) (cuts_left l.cut-iterator)) ≡
+    (slice_index_or l.initial.marks p false || list_any (targets p) (cuts_of l.fn.decoder.strict l.fn.bytes)))

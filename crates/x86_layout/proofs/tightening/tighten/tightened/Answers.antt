@@ -15,7 +15,8 @@ bytes_at : (l : List ℕ) → ((i : ℕ) → Fits w8 (slice_index l i)) → Byte
 bytes_at [] h = tt
 bytes_at (b ∷ l) h = (let f : Fits w8 b = h zero in omega (arith, f), bytes_at l (λ i. h (suc i)))
 
-module _ {strict : Bool} {s : List ℕ} {a : Instruction} (is : IsSentence (rows_of packed) strict s a) {found : Addressed} (h : IsAddressed strict s is.reading is.whole found) (small : (i : ℕ) → Fits w8 (slice_index s i)) where
+module _ {strict : Bool} {s : List ℕ} {a : Instruction} (is : IsSentence (rows_of packed) strict s a) {found : Addressed}
+    (h : IsAddressed strict s is.reading is.whole found) (small : (i : ℕ) → Fits w8 (slice_index s i)) where
   fit : IsOfBytes found.raw
   fit = raw_of_bytes is.whole found.raw h.read (bytes_at s small)
 
@@ -33,10 +34,12 @@ returns-in-Ok-clause-shortest c = λ strict is.
     let h = c.in-Ok.ensures.raw strict is in
     record {
       form = operand_form is.whole c.in-Ok.found.raw h.read false h.form;
-      shortest = shortest_relative is.whole h.read (fit is h c.type_inv.encoding) c.respelled.result.items (spelled is h c.type_inv.encoding c.shortest.ensures c.respelled.ensures) is.lock is.short h.form;
+      shortest = shortest_relative is.whole h.read (fit is h c.type_inv.encoding) c.respelled.result.items
+          (spelled is h c.type_inv.encoding c.shortest.ensures c.respelled.ensures) is.lock is.short h.form;
     }
 
 pub returns-in-Ok-clause-least : goal.returns-in-Ok-clause-least
 returns-in-Ok-clause-least c = λ strict is.
     let h = c.in-Ok.ensures.raw strict is in
-    least_of_shortest is.whole h.read (fit is h c.type_inv.encoding) c.respelled.result.items (spelled is h c.type_inv.encoding c.shortest.ensures c.respelled.ensures) h.form
+    least_of_shortest is.whole h.read (fit is h c.type_inv.encoding) c.respelled.result.items
+    (spelled is h c.type_inv.encoding c.shortest.ensures c.respelled.ensures) h.form

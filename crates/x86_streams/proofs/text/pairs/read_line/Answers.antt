@@ -7,7 +7,12 @@ pub pairs-preserved-in-Blank : goal.pairs-preserved-in-Blank
 pairs-preserved-in-Blank c =
     let i = c.pairs.invariant in
     let first = c.after_blank-first.ensures in
-    record { more = i.more; fits = i.fits; spells = spells_blank c.args.text.now _ _ (first.spells _ i.spells) (omega (arith, c.if-at-text.true, first.near)) c.in-Blank.ensures.0 }
+    record {
+      more = i.more;
+      fits = i.fits;
+      spells =
+          spells_blank c.args.text.now _ _ (first.spells _ i.spells) (omega (arith, c.if-at-text.true, first.near)) c.in-Blank.ensures.0;
+    }
 
 pub pairs-preserved : goal.pairs-preserved
 pairs-preserved c =

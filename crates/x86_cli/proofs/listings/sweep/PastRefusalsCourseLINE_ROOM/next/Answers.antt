@@ -17,9 +17,11 @@ returns-in-Refused-clause-next c =
 
 pub returns-in-Undecided-clause-next : goal.returns-in-Undecided-clause-next
 returns-in-Undecided-clause-next c =
-    sweep_undecided c.args.decoder.now.strict (c.decoder_laws.ensures _) c.args.window.now.ended c.args.place.now c.args.line.now.items c.args.window.now.bytes.items _ c.args.window.now.text.position c.args.window.now.text.room (Err c.in-Err.error) c.in-Undecided.ensures.0
+    sweep_undecided c.args.decoder.now.strict (c.decoder_laws.ensures _) c.args.window.now.ended c.args.place.now c.args.line.now.items
+    c.args.window.now.bytes.items _ c.args.window.now.text.position c.args.window.now.text.room (Err c.in-Err.error) c.in-Undecided.ensures.0
     (ap Err c.in-Undecided.ensures.1) c.in-Err.ensures.value c.as_slice.ensures
 
 pub returns-in-Ended-clause-next : goal.returns-in-Ended-clause-next
 returns-in-Ended-clause-next c =
-    sweep_end c.args.decoder.now.strict c.args.window.now.ended c.args.place.now c.args.line.now.items c.args.window.now.bytes.items c.args.window.now.text.position c.args.window.now.text.room _ c.in-Ended.ensures.0 c.in-Ended.ensures.1
+    sweep_end c.args.decoder.now.strict c.args.window.now.ended c.args.place.now c.args.line.now.items c.args.window.now.bytes.items
+    c.args.window.now.text.position c.args.window.now.text.room _ c.in-Ended.ensures.0 c.in-Ended.ensures.1

@@ -8,7 +8,19 @@ none_left (Ok done) n piece all = rw all (drop_all (length piece) piece (omega a
 none_left (Err e) n piece all = tt
 
 pub returns-clause-calls : goal.returns-clause-calls
-returns-clause-calls g c = (c.send_out.result.1, _, c.send_out.ensures.sends, none_left c.send_out.result.1 _ c.args.piece.now c.send_out.ensures.all, grind arith)
+returns-clause-calls g c = (
+  c.send_out.result.1,
+  _,
+  c.send_out.ensures.sends,
+  none_left c.send_out.result.1 _ c.args.piece.now c.send_out.ensures.all,
+  grind arith,
+)
 
 pub returns-then-is_err-clause-calls : goal.returns-then-is_err-clause-calls
-returns-then-is_err-clause-calls g c = (c.send_out.result.1, _, c.send_out.ensures.sends, none_left c.send_out.result.1 _ c.args.piece.now c.send_out.ensures.all, grind arith)
+returns-then-is_err-clause-calls g c = (
+  c.send_out.result.1,
+  _,
+  c.send_out.ensures.sends,
+  none_left c.send_out.result.1 _ c.args.piece.now c.send_out.ensures.all,
+  grind arith,
+)

@@ -8,4 +8,5 @@ next_held buffer position filled some inside = let next : position + 1 ≡ suc p
 
 pub returns-clause-calls : goal.returns-clause-calls
 returns-clause-calls g c =
-    let s = c.args.self.now in rw (next_held s.buffer s.position s.filled (grind (arith, s.in_order, c.if-self.false)) (grind (arith, s.in_range))) (refl, refl, refl)
+    let s = c.args.self.now in rw (next_held s.buffer s.position s.filled (grind (arith, s.in_order, c.if-self.false))
+    (grind (arith, s.in_range))) (refl, refl, refl)

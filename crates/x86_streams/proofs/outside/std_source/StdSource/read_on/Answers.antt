@@ -17,7 +17,13 @@ returns-in-Ok-eq0-clause-calls g c =
 
 pub returns-in-Ok-clause-calls : goal.returns-in-Ok-clause-calls
 returns-in-Ok-clause-calls g c =
-    rw (none _ _ _ c.requires) (c.read_some.new.buffer, grind arith, _, c.in-Ok.ensures.read, first c.read_some.new.buffer c.in-Ok.count (grind (arith, c.in-Ok.count-test)) (grind (arith, c.in-Ok.ensures.bound)))
+    rw (none _ _ _ c.requires) (
+      c.read_some.new.buffer,
+      grind arith,
+      _,
+      c.in-Ok.ensures.read,
+      first c.read_some.new.buffer c.in-Ok.count (grind (arith, c.in-Ok.count-test)) (grind (arith, c.in-Ok.ensures.bound)),
+    )
 
 pub returns-in-Err-clause-calls : goal.returns-in-Err-clause-calls
 returns-in-Err-clause-calls g c = rw (none _ _ _ c.requires) (c.read_some.new.buffer, grind arith, _, c.in-Err.ensures.read, none _ _ _ c.requires)

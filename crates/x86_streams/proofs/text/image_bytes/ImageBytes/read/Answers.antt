@@ -11,5 +11,6 @@ returns c =
     record {
       values = take pairs.result.0 pairs.new.values;
       spells = pairs.ensures.spells;
-      items = put_after (take before.result before.new.values) pairs.new.values _ _ before.result pairs.result.0 count moved (omega (arith, c.requires, ap length moved, count));
+      items = put_after (take before.result before.new.values) pairs.new.values _ _ before.result pairs.result.0 count moved
+          (omega (arith, c.requires, ap length moved, count));
     }

@@ -1,4 +1,5 @@
-use Rattle.std.proofs.Common.{◌≡◌, ℕ, ◌+◌, List, ◌++◌, length, take, drop, arith, None, ap, ◌∙◌, append_assoc, length-append, ◌≤◌, length-drop, length-take, length-take-le, take-append-drop, take-take}
+use Rattle.std.proofs.Common.{◌≡◌, ℕ, ◌+◌, List, ◌++◌, length, take, drop, arith, None, ap, ◌∙◌, append_assoc, length-append, ◌≤◌}
+use Rattle.std.proofs.Common.{length-drop, length-take, length-take-le, take-append-drop, take-take}
 use Rattle.x86_streams.specs.Text.Reader.{TextPosition}
 use Rattle.x86_streams.specs.Text.Reading.{with_bytes}
 use Rattle.x86_streams.specs.Text.Spells.{Brings}
@@ -7,7 +8,8 @@ use Rattle.x86_streams.proofs.TextLemmas.Text.{with_bytes-with_bytes}
 use Rattle.x86_streams.proofs.text.window.Window.take_many.Goals as goal
 
 -- A text has advanced by these bytes, of which the window took the values.
-module _ (w : List ℕ) (t t' : TextPosition) (n : ℕ) (position : t'.position ≡ t.position + n) (room : t'.room + n ≡ t.room) (unread : t'.unread ≡ drop n t.unread) where
+module _ (w : List ℕ) (t t' : TextPosition) (n : ℕ) (position : t'.position ≡ t.position + n) (room : t'.room + n ≡ t.room)
+    (unread : t'.unread ≡ drop n t.unread) where
   takes_bytes : (w' : List ℕ) → Brings (take t.room t.unread) n w w' → TakesBytes None w t w' t'
   takes_bytes w' brings =
       let spells = brings.spells in
@@ -15,7 +17,14 @@ module _ (w : List ℕ) (t t' : TextPosition) (n : ℕ) (position : t'.position 
       record {
         rest = λ xs stop.
             let begins = spells.begins t.position t'.room (drop n t.unread ++ xs) stop in
-            rw brings.items (ap (with_bytes w) (grind (arith, begins, take-take n t.room t.unread, length-take-le n t.unread, take-append-drop n t.unread, append_assoc (take n t.unread) (drop n t.unread) xs)) ∙ with_bytes-with_bytes w brings.values _);
+            rw brings.items (ap (with_bytes w) (grind (
+              arith,
+              begins,
+              take-take n t.room t.unread,
+              length-take-le n t.unread,
+              take-append-drop n t.unread,
+              append_assoc (take n t.unread) (drop n t.unread) xs,
+            )) ∙ with_bytes-with_bytes w brings.values _);
         fits = rw brings.items (simp length-append (omega (arith, spells.pairs), omega (arith, spells.pairs)));
         turns = rw brings.items (simp length-append (omega (arith, spells.pairs, ap length unread, length-drop n t.unread)));
       }
