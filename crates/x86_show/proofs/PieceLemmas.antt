@@ -19,14 +19,16 @@ module _ (strict : Bool) (laws : DecoderLaws strict) where
   some_bytes place [] p ps e = absurd (cc (none_left strict place [] refl, e))
   some_bytes place (x ∷ xs) p ps e = omega arith
 
-  next : (place : ℕ) (xs : List ℕ) → 0 < length xs → pieces_from strict place xs ≡ piece_at strict place xs ∷ pieces_from strict (place + size strict xs) (drop (size strict xs) xs)
+  next : (place : ℕ) (xs : List ℕ) → 0 < length xs → pieces_from strict place xs ≡ piece_at strict place xs ∷
+      pieces_from strict (place + size strict xs) (drop (size strict xs) xs)
   next place xs some = first_and_rest strict (size strict xs) place xs refl (fit xs some).0 some
 
   -- the first piece is the head of the list, and the rest its tail
   divided : (place : ℕ) (xs : List ℕ) (p : Piece) (ps : List Piece) → pieces_from strict place xs ≡ p ∷ ps →
       (piece_at strict place xs ≡ p) × (pieces_from strict (place + size strict xs) (drop (size strict xs) xs) ≡ ps)
   divided place xs p ps e =
-      let both : piece_at strict place xs ∷ pieces_from strict (place + size strict xs) (drop (size strict xs) xs) ≡ p ∷ ps = sym (next place xs (some_bytes place xs p ps e)) ∙ e in
+      let both : piece_at strict place xs ∷ pieces_from strict (place + size strict xs) (drop (size strict xs) xs) ≡ p ∷ ps =
+      sym (next place xs (some_bytes place xs p ps e)) ∙ e in
       (cc, cc)
 
   moved : (place n m : ℕ) (xs : List ℕ) → pieces_from strict ((place + n) + m) (drop m (drop n xs)) ≡ pieces_from strict (place + (n + m)) (drop (n + m) xs)
@@ -43,7 +45,8 @@ module _ (strict : Bool) (laws : DecoderLaws strict) where
       cc (rest, moved place (size strict xs) (length_together ps) xs, long)
 
   -- pieces that follow others begin where these end
-  begins : (place : ℕ) (xs : List ℕ) (before after : List Piece) (p : Piece) → pieces_from strict place xs ≡ before ++ p ∷ after → place + length_together before ≡ p.place
+  begins : (place : ℕ) (xs : List ℕ) (before after : List Piece) (p : Piece) → pieces_from strict place xs ≡ before ++ p ∷ after →
+      place + length_together before ≡ p.place
   begins place xs before after p e =
       let n : ℕ = length_together before in
       ap (λ p. p.place) (divided (place + n) (drop n xs) p after (sym (go_on place xs before (p ∷ after) e))).0
@@ -54,7 +57,8 @@ module _ (strict : Bool) (laws : DecoderLaws strict) where
       let d = divided place xs p (ps ++ after) e in
       let n : ℕ = size strict xs in
       let some : 0 < length xs = some_bytes place xs p (ps ++ after) e in
-      let closed : is_open_by (answer_of strict xs) (vector_after (answer_of strict xs) xs) ≡ false = ap (λ (q : Piece). is_open_by q.answer q.vector) d.0 ∙ final.0 in
+      let closed : is_open_by (answer_of strict xs) (vector_after (answer_of strict xs) xs) ≡ false =
+      ap (λ (q : Piece). is_open_by q.answer q.vector) d.0 ∙ final.0 in
       let same : piece_at strict place (xs ++ ys) ≡ piece_at strict place xs = piece_stays strict laws place xs ys closed in
       let more : 0 < length (xs ++ ys) = simp length-append (omega (arith, some)) in
       let first : piece_at strict place (xs ++ ys) ≡ p = same ∙ d.0 in

@@ -1,5 +1,6 @@
 -- What bytes begin with, where more bytes follow.
-use Rattle.std.proofs.Common.{arith, ◌≡◌, ◌≢◌, ℕ, zero, suc, ◌+◌, ◌-◌, ◌<◌, ◌≤◌, Bool, true, false, ◌&&◌, not, List, [], ◌∷◌, ◌++◌, length, take, Option, Some, None, inl, inr, refl, sym, ap, ◌∙◌, length-append, if◌then◌else◌, nat_lt}
+use Rattle.std.proofs.Common.{arith, ◌≡◌, ◌≢◌, ℕ, zero, suc, ◌+◌, ◌-◌, ◌<◌, ◌≤◌, Bool, true, false, ◌&&◌, not, List, [], ◌∷◌, ◌++◌, length}
+use Rattle.std.proofs.Common.{take, Option, Some, None, inl, inr, refl, sym, ap, ◌∙◌, length-append, if◌then◌else◌, nat_lt}
 use Rattle.std.specs.Prelude.{◌%◌, ◌/◌, ◌==◌}
 use Rattle.std.proofs.Math.Seq.{take-append-add}
 use Rattle.std.proofs.lemmas.Bool.{cases_lt}
@@ -10,7 +11,9 @@ use Rattle.x86_fields.specs.ModRM.{is_memory, rm_field}
 use Rattle.x86_fields.specs.Raw.{displacement_width}
 use Rattle.x86_show.specs.declared.vectors.Vector.{Vector}
 use Rattle.x86_show.specs.declared.vectors.Vector.TheVariants.{Absent, Cut, Whole}
-use Rattle.x86_show.specs.Vectors.{precedes, sib_bytes, bytes_from_modrm, immediate_bytes, with_address, after_head, after_c5, third, after_c4, after_8f, fourth, third_of_62, after_62, at_lead, one_longer, after_prefixes, fitting, vector_of}
+use Rattle.x86_show.specs.Vectors.{precedes, sib_bytes, bytes_from_modrm, immediate_bytes, with_address, after_head, after_c5, third}
+use Rattle.x86_show.specs.Vectors.{after_c4, after_8f, fourth, third_of_62, after_62, at_lead, one_longer, after_prefixes, fitting}
+use Rattle.x86_show.specs.Vectors.{vector_of}
 
 -- ---- what is decided stays
 
@@ -37,9 +40,11 @@ module _ (zs : List ℕ) where
   address_more : (xs : List ℕ) → Keeps (bytes_from_modrm xs) (bytes_from_modrm (xs ++ zs))
   address_more [] = λ some. absurd (some refl)
   address_more (m ∷ xs) =
-      keep (not (is_memory m)) (Some 1) (if rm_field m == 4 then sib_bytes m xs else Some (1 + displacement_width m None)) (Some 1) (if rm_field m == 4 then sib_bytes m (xs ++ zs) else Some (1 + displacement_width m None))
+      keep (not (is_memory m)) (Some 1) (if rm_field m == 4 then sib_bytes m xs else Some (1 + displacement_width m None)) (Some 1)
+      (if rm_field m == 4 then sib_bytes m (xs ++ zs) else Some (1 + displacement_width m None))
       (λ _. refl)
-      (keep (rm_field m == 4) (sib_bytes m xs) (Some (1 + displacement_width m None)) (sib_bytes m (xs ++ zs)) (Some (1 + displacement_width m None)) (sib_more m xs) (λ _. refl))
+      (keep (rm_field m == 4) (sib_bytes m xs) (Some (1 + displacement_width m None)) (sib_bytes m (xs ++ zs))
+      (Some (1 + displacement_width m None)) (sib_more m xs) (λ _. refl))
 
   with_more : (n : ℕ) (xs : List ℕ) → Stays (with_address n (bytes_from_modrm xs)) (with_address n (bytes_from_modrm (xs ++ zs)))
   with_more n xs some = ap (with_address n) (address_more xs (λ e. some (ap (with_address n) e)))
@@ -48,7 +53,8 @@ module _ (zs : List ℕ) where
   head_more n map vex [] = λ some. absurd (some refl)
   head_more n map vex (o ∷ xs) =
       let k : ℕ = n + 1 + immediate_bytes map o in
-      pick (vex && ((map == 1) && (o == 0x77))) (Whole (n + 1)) (with_address k (bytes_from_modrm xs)) (Whole (n + 1)) (with_address k (bytes_from_modrm (xs ++ zs))) (λ _. refl) (with_more k xs)
+      pick (vex && ((map == 1) && (o == 0x77))) (Whole (n + 1)) (with_address k (bytes_from_modrm xs)) (Whole (n + 1))
+      (with_address k (bytes_from_modrm (xs ++ zs))) (λ _. refl) (with_more k xs)
 
   c5_more : (xs : List ℕ) → Stays (after_c5 xs) (after_c5 (xs ++ zs))
   c5_more [] = λ some. absurd (some refl)
@@ -60,11 +66,13 @@ module _ (zs : List ℕ) where
 
   c4_more : (xs : List ℕ) → Stays (after_c4 xs) (after_c4 (xs ++ zs))
   c4_more [] = λ some. absurd (some refl)
-  c4_more (a ∷ xs) = pick (is_among (1 ∷ 2 ∷ 3 ∷ []) (a % 32)) (third (a % 32) true xs) Absent (third (a % 32) true (xs ++ zs)) Absent (third_more (a % 32) true xs) (λ _. refl)
+  c4_more (a ∷ xs) = pick (is_among (1 ∷ 2 ∷ 3 ∷ []) (a % 32)) (third (a % 32) true xs) Absent (third (a % 32) true (xs ++ zs)) Absent
+      (third_more (a % 32) true xs) (λ _. refl)
 
   xop_more : (xs : List ℕ) → Stays (after_8f xs) (after_8f (xs ++ zs))
   xop_more [] = λ some. absurd (some refl)
-  xop_more (a ∷ xs) = pick (is_among (8 ∷ 9 ∷ 10 ∷ []) (a % 32)) (third (a % 32) false xs) Absent (third (a % 32) false (xs ++ zs)) Absent (third_more (a % 32) false xs) (λ _. refl)
+  xop_more (a ∷ xs) = pick (is_among (8 ∷ 9 ∷ 10 ∷ []) (a % 32)) (third (a % 32) false xs) Absent (third (a % 32) false (xs ++ zs)) Absent
+      (third_more (a % 32) false xs) (λ _. refl)
 
   fourth_more : (map : ℕ) (xs : List ℕ) → Stays (fourth map xs) (fourth map (xs ++ zs))
   fourth_more map [] = λ some. absurd (some refl)
@@ -77,14 +85,18 @@ module _ (zs : List ℕ) where
   evex_more : (xs : List ℕ) → Stays (after_62 xs) (after_62 (xs ++ zs))
   evex_more [] = λ some. absurd (some refl)
   evex_more (a ∷ xs) =
-      pick (is_among (1 ∷ 2 ∷ 3 ∷ 5 ∷ 6 ∷ []) (a % 16)) (third_of_62 (a % 16) xs) Absent (third_of_62 (a % 16) (xs ++ zs)) Absent (third_of_62_more (a % 16) xs) (λ _. refl)
+      pick (is_among (1 ∷ 2 ∷ 3 ∷ 5 ∷ 6 ∷ []) (a % 16)) (third_of_62 (a % 16) xs) Absent (third_of_62 (a % 16) (xs ++ zs)) Absent
+      (third_of_62_more (a % 16) xs) (λ _. refl)
 
   lead_more : (b : ℕ) (xs : List ℕ) → Stays (at_lead b xs) (at_lead b (xs ++ zs))
   lead_more b xs =
       pick (b == 0xc5) (after_c5 xs) (if b == 0xc4 then after_c4 xs else (if b == 0x62 then after_62 xs else (if b == 0x8f then after_8f xs else Absent)))
-      (after_c5 (xs ++ zs)) (if b == 0xc4 then after_c4 (xs ++ zs) else (if b == 0x62 then after_62 (xs ++ zs) else (if b == 0x8f then after_8f (xs ++ zs) else Absent))) (c5_more xs)
-      (pick (b == 0xc4) (after_c4 xs) (if b == 0x62 then after_62 xs else (if b == 0x8f then after_8f xs else Absent)) (after_c4 (xs ++ zs)) (if b == 0x62 then after_62 (xs ++ zs) else (if b == 0x8f then after_8f (xs ++ zs) else Absent)) (c4_more xs)
-      (pick (b == 0x62) (after_62 xs) (if b == 0x8f then after_8f xs else Absent) (after_62 (xs ++ zs)) (if b == 0x8f then after_8f (xs ++ zs) else Absent) (evex_more xs)
+      (after_c5 (xs ++ zs)) (if b == 0xc4 then after_c4 (xs ++ zs)
+      else (if b == 0x62 then after_62 (xs ++ zs) else (if b == 0x8f then after_8f (xs ++ zs) else Absent))) (c5_more xs)
+      (pick (b == 0xc4) (after_c4 xs) (if b == 0x62 then after_62 xs else (if b == 0x8f then after_8f xs else Absent)) (after_c4 (xs ++ zs))
+      (if b == 0x62 then after_62 (xs ++ zs) else (if b == 0x8f then after_8f (xs ++ zs) else Absent)) (c4_more xs)
+      (pick (b == 0x62) (after_62 xs) (if b == 0x8f then after_8f xs else Absent) (after_62 (xs ++ zs))
+      (if b == 0x8f then after_8f (xs ++ zs) else Absent) (evex_more xs)
       (pick (b == 0x8f) (after_8f xs) Absent (after_8f (xs ++ zs)) Absent (xop_more xs) (λ _. refl))))
 
   longer : (old new : Vector) → Stays old new → Stays (one_longer old) (one_longer new)
@@ -122,7 +134,8 @@ with_some m (Some w) some = whole_some (m + w) (omega (arith, some))
 head_some : (n map : ℕ) (vex : Bool) (xs : List ℕ) → Some_bytes (after_head n map vex xs)
 head_some n map vex [] = none_cut
 head_some n map vex (o ∷ xs) =
-    chosen (vex && ((map == 1) && (o == 0x77))) (Whole (n + 1)) (with_address (n + 1 + immediate_bytes map o) (bytes_from_modrm xs)) (whole_some (n + 1) (omega arith)) (with_some (n + 1 + immediate_bytes map o) (bytes_from_modrm xs) (omega arith))
+    chosen (vex && ((map == 1) && (o == 0x77))) (Whole (n + 1)) (with_address (n + 1 + immediate_bytes map o) (bytes_from_modrm xs))
+    (whole_some (n + 1) (omega arith)) (with_some (n + 1 + immediate_bytes map o) (bytes_from_modrm xs) (omega arith))
 
 c5_some : (xs : List ℕ) → Some_bytes (after_c5 xs)
 c5_some [] = none_cut
@@ -154,7 +167,8 @@ evex_some (a ∷ xs) = chosen (is_among (1 ∷ 2 ∷ 3 ∷ 5 ∷ 6 ∷ []) (a % 
 
 lead_some : (b : ℕ) (xs : List ℕ) → Some_bytes (at_lead b xs)
 lead_some b xs =
-    chosen (b == 0xc5) (after_c5 xs) (if b == 0xc4 then after_c4 xs else (if b == 0x62 then after_62 xs else (if b == 0x8f then after_8f xs else Absent))) (c5_some xs)
+    chosen (b == 0xc5) (after_c5 xs) (if b == 0xc4 then after_c4 xs
+    else (if b == 0x62 then after_62 xs else (if b == 0x8f then after_8f xs else Absent))) (c5_some xs)
     (chosen (b == 0xc4) (after_c4 xs) (if b == 0x62 then after_62 xs else (if b == 0x8f then after_8f xs else Absent)) (c4_some xs)
     (chosen (b == 0x62) (after_62 xs) (if b == 0x8f then after_8f xs else Absent) (evex_some xs)
     (chosen (b == 0x8f) (after_8f xs) Absent (xop_some xs) none_absent)))
@@ -219,7 +233,8 @@ stays xs ys some = elim (cases_lt (length xs) 15) [
       let sum : length xs + (15 - length xs) ≡ 15 = omega (arith, short) in
       let more : take 15 (xs ++ ys) ≡ xs ++ take (15 - length xs) ys = ap (λ n. take n (xs ++ ys)) (sym sum) ∙ take-append-add xs ys (15 - length xs) in
       let known : fitting (length xs) (after_prefixes xs) ≢ Cut = λ e. some (ap (λ l. fitting (length xs) (after_prefixes l)) whole ∙ e) in
-      let kept : after_prefixes (xs ++ take (15 - length xs) ys) ≡ after_prefixes xs = prefixes_more (take (15 - length xs) ys) xs (λ e. known (fit_cut (length xs) (after_prefixes xs) e short)) in
+      let kept : after_prefixes (xs ++ take (15 - length xs) ys) ≡ after_prefixes xs =
+      prefixes_more (take (15 - length xs) ys) xs (λ e. known (fit_cut (length xs) (after_prefixes xs) e short)) in
       ap (λ l. fitting (length (xs ++ ys)) (after_prefixes l)) more ∙ ap (fitting (length (xs ++ ys))) kept
       ∙ fit_more (length xs) (length (xs ++ ys)) (after_prefixes xs) short (omega (arith, length-append xs ys)) known
       ∙ ap (λ l. fitting (length xs) (after_prefixes l)) (sym whole)

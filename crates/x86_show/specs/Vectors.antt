@@ -1,6 +1,7 @@
 -- VEX, EVEX and XOP encodings by their length alone (Intel SDM volume 2, sections 2.3 and 2.7; AMD APM volume 6, section
 -- 1.1). What they do isn't decoded.
-use Rattle.std.specs.Prelude.{ℕ, ◌+◌, ◌%◌, ◌/◌, ◌==◌, ◌&&◌, ◌||◌, not, Bool, true, false, nat_le, nat_lt, if◌then◌else◌, Option, Some, None, Result, Ok, Err, List, [], ◌∷◌, length, take}
+use Rattle.std.specs.Prelude.{ℕ, ◌+◌, ◌%◌, ◌/◌, ◌==◌, ◌&&◌, ◌||◌, not, Bool, true, false, nat_le, nat_lt, if◌then◌else◌, Option, Some, None}
+use Rattle.std.specs.Prelude.{Result, Ok, Err, List, [], ◌∷◌, length, take}
 use Rattle.x86_opcodes.specs.Kinds.{is_among}
 use Rattle.x86_fields.specs.ModRM.{is_memory, rm_field}
 use Rattle.x86_fields.specs.Raw.{displacement_width}
@@ -26,7 +27,8 @@ bytes_from_modrm (modrm ∷ rest) =
 -- an immediate of 1 byte in the maps 3 and 8 and at these opcodes of map 1, and of 4 bytes in map 10
 abbrev pub immediate_bytes : ℕ → ℕ → ℕ
 immediate_bytes map opcode =
-    if is_among (3 ∷ 8 ∷ []) map || (map == 1) && is_among (0x70 ∷ 0x71 ∷ 0x72 ∷ 0x73 ∷ 0xc2 ∷ 0xc4 ∷ 0xc5 ∷ 0xc6 ∷ []) opcode then 1 else (if map == 10 then 4 else 0)
+    if is_among (3 ∷ 8 ∷ []) map || (map == 1) && is_among (0x70 ∷ 0x71 ∷ 0x72 ∷ 0x73 ∷ 0xc2 ∷ 0xc4 ∷ 0xc5 ∷ 0xc6 ∷ []) opcode then 1
+    else (if map == 10 then 4 else 0)
 
 abbrev pub with_address : ℕ → Option ℕ → Vector
 with_address n None = Cut

@@ -1,5 +1,6 @@
 //! The text of instructions, as `objdump -d -M intel` prints it.
 
+mod choices;
 mod context;
 mod entries;
 mod immediates;
@@ -10,6 +11,7 @@ mod names;
 mod numbers;
 mod operands;
 mod rare;
+mod rex;
 mod sizes;
 mod words;
 

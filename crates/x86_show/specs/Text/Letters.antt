@@ -44,7 +44,7 @@ sizes_of_Of =
     codes "zzzzzzzzzzzzzzzz" ∷
     codes "----------------" ∷
     codes "zz-vvv--zz-vvvgv" ∷
-    codes "-vuvuuvvvvvvuuvv" ∷
+    codes "-vuvuuvvvvvvggvv" ∷
     codes "-v-y---gvvvvvvvv" ∷
     codes "-------y--------" ∷
     codes "----------------" ∷
@@ -58,7 +58,8 @@ letter text = slice_index text 0
 abbrev pub size_letter : Map → ℕ → ℕ
 size_letter One opcode = letter_at sizes_of_One opcode
 size_letter Of opcode = letter_at sizes_of_Of opcode
-size_letter Of38 opcode = if is_among (0xf0 ∷ 0xf1 ∷ []) opcode then letter (codes "g") else (if is_among (0xf5 ∷ 0xf6 ∷ 0xf9 ∷ []) opcode then letter (codes "y") else letter (codes "-"))
+size_letter Of38 opcode = if is_among (0xf0 ∷ 0xf1 ∷ []) opcode then letter (codes "g")
+    else (if is_among (0xf5 ∷ 0xf6 ∷ 0xf9 ∷ []) opcode then letter (codes "y") else letter (codes "-"))
 size_letter Of3a opcode = if is_among (0x16 ∷ 0x22 ∷ 0x60 ∷ 0x61 ∷ []) opcode then letter (codes "y") else letter (codes "-")
 
 -- The prefixes that choose among rows: `a` 66, F2 and F3; `3` F3; `g` by the group.

@@ -40,7 +40,8 @@ abbrev pub name_in_of : Context → List ℕ
 name_in_of c =
     if c.opcode == 0x01 then name_of_01 c
     else (if c.opcode == 0x09 then (if rep c.prefixes then codes "wbnoinvd" else [])
-    else (if c.opcode == 0x0d then (if reg_field c.modrm == 1 then codes "prefetchw" else (if reg_field c.modrm == 2 then codes "prefetchwt1" else codes "prefetch"))
+    else (if c.opcode == 0x0d then (if reg_field c.modrm == 1 then codes "prefetchw"
+    else (if reg_field c.modrm == 2 then codes "prefetchwt1" else codes "prefetch"))
     else (if c.opcode == 0x18 then name_of_18 c
     else (if c.opcode == 0x1c then (if is_memory c.modrm && (reg_field c.modrm == 0) && is_plain c then codes "cldemote" else [])
     else (if c.opcode == 0x1e then (if is_shadow_read c then (if has_w c.prefixes then codes "rdsspq" else codes "rdsspd") else []) else [])))))

@@ -47,7 +47,8 @@ string_size c i =
     else (if is_among (INS ∷ OUTS ∷ []) (opcode i) then (if has_two_bytes c then 2 else 4) else width_of (v_class c.prefixes))
 
 abbrev pub accumulator_text : ℕ → List ℕ
-accumulator_text size = if size == 1 then register_named B 0 else (if size == 2 then register_named W 0 else (if size == 4 then register_named D 0 else register_named Q 0))
+accumulator_text size = if size == 1 then register_named B 0
+    else (if size == 2 then register_named W 0 else (if size == 4 then register_named D 0 else register_named Q 0))
 
 -- memory at rsi is in the segment of the prefixes, and memory at rdi in ES
 abbrev pub source_text : Context → ℕ → List ℕ
@@ -149,13 +150,15 @@ module _ (c : Context) (i : Instruction) (e : Entry) (p : PartLists) where
   -- MOV of a segment register in the register form: the general register has the operand size
   abbrev pub segment_move_text : List ℕ
   segment_move_text =
-      if c.opcode == 0x8c then rm_register (v_class c.prefixes) c ++ comma ++ listed_operand 1 else listed_operand 0 ++ comma ++ rm_register (v_class c.prefixes) c
+      if c.opcode == 0x8c then rm_register (v_class c.prefixes) c ++ comma ++ listed_operand 1 else listed_operand 0 ++ comma
+      ++ rm_register (v_class c.prefixes) c
 
   -- ---- x87: the accumulator is `st` beside another register, and isn't written where it is the only choice
 
   abbrev pub two_registers : List ℕ
   two_registers =
-      if is_among (0xdc ∷ 0xde ∷ []) c.opcode then x87_register (operand_at i 0) ++ comma ++ codes "st" else codes "st" ++ comma ++ x87_register (operand_at i 1)
+      if is_among (0xdc ∷ 0xde ∷ []) c.opcode then x87_register (operand_at i 0) ++ comma ++ codes "st" else codes "st" ++ comma
+      ++ x87_register (operand_at i 1)
 
   -- by the letter of the shape: `l` the last register alone, `t` the first
   abbrev pub x87_registers : List ℕ
@@ -185,9 +188,17 @@ module _ (c : Context) (i : Instruction) (e : Entry) (p : PartLists) where
   abbrev pub without_named : List ℕ
   without_named = if is_in_name (name_letter e) p.immediate then first_text (operand_count i - 1) else first_text 4
 
+  -- by what the last operand is: `m` xmm0, after the others; `2` two immediates; `c` an immediate that may be in the name; `i`
+  -- that of INT, which has one at CD alone
+  unfoldable pub last_text : List ℕ
+  last_text =
+      if shape_letter e == letter (codes "m") then first_text 2 ++ codes ",xmm0"
+      else (if shape_letter e == letter (codes "2") then field_text
+      else (if shape_letter e == letter (codes "i") then (if c.opcode == 0xcd then first_text 4 else [])
+      else without_named))
+
   -- The operands by the letter of the shape: `s` a string operation, `x` XLAT, `e` ENTER, `f`, `l` and `t` x87, `w` FNSTSW, `h` a
-  -- hint, `r` XCHG, `n` none, `k` a MOV of A0 to A3 or of a segment register, `m` xmm0 after the others, `2` two
-  -- immediates, `c` an immediate that may be in the name, `i` INT, which has an immediate at CD alone.
+  -- hint, `r` XCHG, `n` none, `k` a MOV of A0 to A3 or of a segment register.
   abbrev pub rare_text : List ℕ
   rare_text =
       if shape_letter e == letter (codes "s") then string_text c i
@@ -199,10 +210,7 @@ module _ (c : Context) (i : Instruction) (e : Entry) (p : PartLists) where
       else (if shape_letter e == letter (codes "r") then (if c.has_modrm then first_text 4 else exchange_text c)
       else (if shape_letter e == letter (codes "n") then []
       else (if shape_letter e == letter (codes "k") then (if is_offset c then offset_text c p else segment_move_text)
-      else (if shape_letter e == letter (codes "m") then first_text 2 ++ codes ",xmm0"
-      else (if shape_letter e == letter (codes "2") then field_text
-      else (if shape_letter e == letter (codes "i") then (if c.opcode == 0xcd then first_text 4 else [])
-      else without_named)))))))))))
+      else last_text))))))))
 
   -- `-` as the decoder answers them; `j` a target; `J` a target, or the operand that ModRM spells
   unfoldable pub listed_operands : ℕ → List ℕ

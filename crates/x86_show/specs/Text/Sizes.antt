@@ -52,7 +52,8 @@ slot_letter e slot = letter (codes "-")
 
 -- a register in a slot: of the same number, with the size that the processor reads
 abbrev pub register_in : Context → Entry → Slot → RegSpec → List ℕ
-register_in c e slot r = if slot_letter e slot == letter (codes "-") then register_text r else register_text (register_with r (class_by_letter c (slot_letter e slot)))
+register_in c e slot r = if slot_letter e slot == letter (codes "-") then register_text r
+    else register_text (register_with r (class_by_letter c (slot_letter e slot)))
 
 -- The size of memory by its letter: `0` none, `1` a byte, `8` 8 bytes, `o` 16 bytes that are named an oword, `f` a far
 -- pointer, `b` a byte at an even opcode byte, `h` a byte where the hint has a name, `y` by W, `p` the stack's, else by W and 66.

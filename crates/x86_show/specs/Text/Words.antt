@@ -1,5 +1,6 @@
 -- The words of prefixes: each prefix byte has its word, in the order of the bytes, unless the instruction reads it.
-use Rattle.std.specs.Prelude.{ℕ, ◌%◌, ◌==◌, ◌&&◌, ◌||◌, not, Bool, true, false, Option, Some, None, List, [], ◌∷◌, ◌++◌, codes, get_or, nat_le, nat_lt, if◌then◌else◌}
+use Rattle.std.specs.Prelude.{ℕ, ◌%◌, ◌==◌, ◌&&◌, ◌||◌, not, Bool, true, false, Option, Some, None, List, [], ◌∷◌, ◌++◌, codes, get_or}
+use Rattle.std.specs.Prelude.{nat_le, nat_lt, if◌then◌else◌}
 use Rattle.std.specs.List.{list_any}
 use Rattle.x86_regs.specs.declared.RegisterClass.{RegisterClass}
 use Rattle.x86_regs.specs.declared.RegisterClass.TheVariants.{RB}
@@ -55,9 +56,13 @@ size_of_1b c =
     if is_memory c.modrm then (if rep_any c.prefixes then letter (codes "-") else letter (codes "a"))
     else (if rep_any c.prefixes then letter (codes "y") else letter (codes "u"))
 
--- beside F2 or F3 the hints at 1C and 1E leave 66 unread
-abbrev pub size_of_hint : Context → Bool → ℕ
-size_of_hint c other = if other then letter (codes "-") else (if rep_any c.prefixes then letter (codes "y") else letter (codes "u"))
+-- beside F2 or F3 the hints at 1C leave 66 unread, and beside F3 those at 1E
+abbrev pub size_of_hint : Bool → Bool → ℕ
+size_of_hint other beside = if other then letter (codes "-") else (if beside then letter (codes "y") else letter (codes "u"))
+
+-- BSF and BSR read 66 beside W too, TZCNT and LZCNT don't
+abbrev pub size_of_scan : Context → ℕ
+size_of_scan c = if rep c.prefixes then letter (codes "v") else letter (codes "u")
 
 -- by the operation: `b` is y at an even opcode byte, else v; `r` is v in the register form
 abbrev pub size_by_entry : Context → Entry → ℕ
@@ -71,10 +76,11 @@ size_in_of c e =
     if c.opcode == 0x18 then size_of_18 c e
     else (if c.opcode == 0x1a then (if is_memory c.modrm then letter (codes "-") else letter (codes "v"))
     else (if c.opcode == 0x1b then size_of_1b c
-    else (if c.opcode == 0x1c then size_of_hint c (is_special c)
-    else (if c.opcode == 0x1e then size_of_hint c (not (shape_letter e == letter (codes "h")))
+    else (if c.opcode == 0x1c then size_of_hint (is_special c) (rep_any c.prefixes)
+    else (if c.opcode == 0x1e then size_of_hint (not (shape_letter e == letter (codes "h"))) (rep c.prefixes)
     else (if c.opcode == 0x7e then (if rep_any c.prefixes then letter (codes "-") else letter (codes "y"))
-    else size_by_entry c e)))))
+    else (if is_among (0xbc ∷ 0xbd ∷ []) c.opcode then size_of_scan c
+    else size_by_entry c e))))))
 
 abbrev pub group_size : Context → Entry → ℕ
 group_size c e = if is_one c 0x90 then size_of_90 c else (if is_map_0f c.map then size_in_of c e else size_by_entry c e)
@@ -104,7 +110,8 @@ reads_66_alone l = is_among (codes "vz") l
 abbrev pub group_7_letter : Context → ℕ
 group_7_letter c =
     if is_memory c.modrm then (if reg_field c.modrm == 5 then letter (codes "r") else letter (codes "-"))
-    else (if (reg_field c.modrm == 5) || is_among (0xc6 ∷ 0xcc ∷ 0xcd ∷ 0xce ∷ 0xcf ∷ 0xd9 ∷ 0xfa ∷ 0xfd ∷ 0xfe ∷ 0xff ∷ []) c.modrm then letter (codes "a") else letter (codes "-"))
+    else (if (reg_field c.modrm == 5) || is_among (0xc6 ∷ 0xcc ∷ 0xcd ∷ 0xce ∷ 0xcf ∷ 0xd9 ∷ 0xfa ∷ 0xfd ∷ 0xfe ∷ 0xff ∷ []) c.modrm
+    then letter (codes "a") else letter (codes "-"))
 
 abbrev pub group_chooser : Context → Entry → ℕ
 group_chooser c e =
@@ -133,9 +140,9 @@ is_reg_slot slot = false
 abbrev pub is_high_reg : Instruction → ℕ → Bool
 is_high_reg i k = is_reg_slot (slot_at i k) && is_high (operand_at i k)
 
--- R extends reg
+-- R extends reg, but for the hints at 0F 1E beside F3, of which reg is no operand
 abbrev pub reads_r : Context → Instruction → Bool
-reads_r c i = c.has_modrm && (is_high_reg i 0 || is_high_reg i 1)
+reads_r c i = c.has_modrm && (is_high_reg i 0 || is_high_reg i 1) && not (is_0f c 0x1e && rep c.prefixes)
 
 abbrev pub names_memory : Instruction → Bool
 names_memory i = is_memory_slot (slot_at i 0) || is_memory_slot (slot_at i 1)

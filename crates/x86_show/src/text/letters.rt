@@ -38,7 +38,7 @@ static SIZES_OF: [[u8; 16]; 16] = [
     *b"zzzzzzzzzzzzzzzz",
     *b"----------------",
     *b"zz-vvv--zz-vvvgv",
-    *b"-vuvuuvvvvvvuuvv",
+    *b"-vuvuuvvvvvvggvv",
     *b"-v-y---gvvvvvvvv",
     *b"-------y--------",
     *b"----------------",

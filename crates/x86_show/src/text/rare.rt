@@ -2,7 +2,7 @@
 
 ghost use Rattle.std.specs.Prelude.{◌≡◌, ◌+◌, ◌<◌, ◌≤◌, ◌++◌, drop, length, take};
 ghost use Rattle.x86_fields.specs.Parts.{lists_of};
-ghost use Rattle.x86_show.specs.Text.Operands.{register_named, string_size, accumulator_text, source_text, destination_text, string_first, string_second, string_text, table_text, two_numbers, exchange_text, rm_register, offset_address, offset_accumulator, offset_text, segment_move_text, x87_register, two_registers, x87_registers, x87_text, hint_text, field_text, without_named, rare_text};
+ghost use Rattle.x86_show.specs.Text.Operands.{register_named, string_size, accumulator_text, source_text, destination_text, string_first, string_second, string_text, table_text, two_numbers, exchange_text, rm_register, offset_address, offset_accumulator, offset_text, segment_move_text, x87_register, two_registers, x87_registers, x87_text, hint_text, field_text, without_named, last_text, rare_text};
 
 use crate::text::context::Context;
 use crate::text::memory::put_segment;
@@ -365,6 +365,26 @@ fn put_without_named(cells: &mut [u8], at: usize, shown: &Shown) -> usize
     }
 }
 
+/// Writes operands of which the last isn't as the decoder answers it.
+#[tactic(auto, unfolding(crate::specs::Text::Operands::last_text))]
+fn put_last(cells: &mut [u8], at: usize, shown: &Shown) -> usize
+    requires { at + 276 ≤ length cells.old }
+    ensures text { take result cells.new ≡ take at cells.old
+        ++ last_text shown.now.context.now shown.now.inst.now shown.now.entry.now (lists_of shown.now.parts.now) }
+    ensures short { result ≤ at + 250 }
+{
+    match shown.entry.shape_letter() {
+        b'm' => {
+            let at = put_first_operands(cells, at, shown, 2);
+            put_bytes(cells, at, b",xmm0")
+        }
+        b'2' => put_fields(cells, at, shown),
+        b'i' if shown.context.opcode == 0xcd => put_first_operands(cells, at, shown, 4),
+        b'i' => at,
+        _ => put_without_named(cells, at, shown),
+    }
+}
+
 /// Writes the operands of the instructions that have a shape of their own.
 #[inline(never)]
 pub fn put_rarely(cells: &mut [u8], at: usize, shown: &Shown) -> usize
@@ -386,13 +406,6 @@ pub fn put_rarely(cells: &mut [u8], at: usize, shown: &Shown) -> usize
         b'n' => at,
         b'k' if shown.context.is_offset() => put_offset(cells, at, shown),
         b'k' => put_segment_move(cells, at, shown),
-        b'm' => {
-            let at = put_first_operands(cells, at, shown, 2);
-            put_bytes(cells, at, b",xmm0")
-        }
-        b'2' => put_fields(cells, at, shown),
-        b'i' if shown.context.opcode == 0xcd => put_first_operands(cells, at, shown, 4),
-        b'i' => at,
-        _ => put_without_named(cells, at, shown),
+        _ => put_last(cells, at, shown),
     }
 }

@@ -3,9 +3,9 @@
 ghost use Rattle.std.specs.Prelude.{◌≡◌, ◌+◌, ◌≤◌, ◌++◌, length, take};
 ghost use Rattle.x86_show.specs.Text.Sizes.{stack_class, class_by_67, class_by_letter, register_with, slot_letter, register_in, size_by_letter, memory_size, size_words};
 
+use crate::text::choices::is_special;
 use crate::text::context::Context;
 use crate::text::names::Entry;
-use crate::text::words::is_special;
 use x86_decode::Instruction;
 use x86_forms::Map;
 use x86_lines::cells::put_first;

@@ -19,7 +19,8 @@ returns-clause-text c =
     let n = c.number.result in
     let known = c.number.ensures.named in
     let unnamed : Named = record { opcode = 0; spelled = [] } in
-    let at = subst (λ o. IfSome o (λ named. (named.opcode ≡ n) × (named.spelled ≡ mnemonic n))) (slice_get-get_or all_names n unnamed known) (c.names_are_in_the_order_of_their_numbers.ensures n) in
+    let at = subst (λ o. IfSome o (λ named. (named.opcode ≡ n) × (named.spelled ≡ mnemonic n))) (slice_get-get_or all_names n unnamed known)
+    (c.names_are_in_the_order_of_their_numbers.ensures n) in
     named MNEMONICS n known (map spelled all_names) table_is
     ∙ get_or-map spelled all_names n unnamed [] known ∙ at.1 ∙ ap mnemonic c.number.ensures.value
 

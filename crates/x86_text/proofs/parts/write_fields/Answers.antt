@@ -15,7 +15,8 @@ pub returns-clause-text : goal.returns-clause-text
 unfolding fields_line
 returns-clause-text c =
     let p : PartLists = lists_of c.args.parts.now in
-    let start : take c.line.inside.len c.line.inside.cells ≡ decimal c.args.place.now = ap (λ r. r.items) c.line.view_is ∙ c.set.ensures.text ∙ c.digits.ensures in
+    let start : take c.line.inside.len c.line.inside.cells ≡ decimal c.args.place.now = ap (λ r. r.items) c.line.view_is
+    ∙ c.set.ensures.text ∙ c.digits.ensures in
     let counted : take c.put_u64-at.result c.put_u64-at.new.cells ≡ decimal c.args.place.now ++ codes " " ++ decimal (sum_by length (in_order p)) =
     c.put_u64-at.ensures.text ∙ ap (λ l. l ++ decimal c.parts_length.result) (c.put-at.ensures.text ∙ ap (λ l. l ++ codes " ") start)
     ∙ ap (λ n. decimal c.args.place.now ++ codes " " ++ decimal n) c.parts_length.ensures in

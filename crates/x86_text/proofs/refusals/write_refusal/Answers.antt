@@ -3,7 +3,20 @@ use Rattle.x86_text.proofs.OperandLemmas.{description_short}
 use Rattle.x86_text.proofs.refusals.write_refusal.Goals as goal
 
 pub extend-requires-2 : goal.extend-requires-2
-extend-requires-2 c = omega (arith, c.set.ensures.short, c.extend.ensures.len, description_short c.args.error, ap length (c.as_bytes.ensures.value ∙ c.description.ensures))
+extend-requires-2 c = omega (
+  arith,
+  c.set.ensures.short,
+  c.extend.ensures.len,
+  description_short c.args.error,
+  ap length (c.as_bytes.ensures.value ∙ c.description.ensures),
+)
 
 pub returns-clause-short : goal.returns-clause-short
-returns-clause-short c = omega (arith, c.set.ensures.short, c.extend.ensures.len, c.extend-2.ensures.len, description_short c.args.error, ap length (c.as_bytes.ensures.value ∙ c.description.ensures))
+returns-clause-short c = omega (
+  arith,
+  c.set.ensures.short,
+  c.extend.ensures.len,
+  c.extend-2.ensures.len,
+  description_short c.args.error,
+  ap length (c.as_bytes.ensures.value ∙ c.description.ensures),
+)

@@ -8,4 +8,5 @@ pub returns-clause-text : goal.returns-clause-text
 unfolding listed_text
 returns-clause-text c =
     c.put_shown.ensures.text
-    ∙ (λ i. take c.args.at c.args.cells.now ++ shown_by (c.of.ensures i) c.args.inst.now ((c.entry_for.ensures.is ∙ ap entry_for c.opcode.ensures) i) (lists_of c.args.parts.now) c.args.next)
+    ∙ (λ i. take c.args.at c.args.cells.now ++ shown_by (c.of.ensures i) c.args.inst.now
+    ((c.entry_for.ensures.is ∙ ap entry_for c.opcode.ensures) i) (lists_of c.args.parts.now) c.args.next)

@@ -40,7 +40,8 @@ returns-clause-is c =
     let n = c.number.result in
     let known = c.number.ensures.named in
     let unnamed : Named = record { opcode = 0; spelled = [] } in
-    let at = subst (λ o. IfSome o (λ named. (named.opcode ≡ n) × (named.spelled ≡ mnemonic n))) (slice_get-get_or all_names n unnamed known) (c.names_are_in_the_order_of_their_numbers.ensures n) in
+    let at = subst (λ o. IfSome o (λ named. (named.opcode ≡ n) × (named.spelled ≡ mnemonic n))) (slice_get-get_or all_names n unnamed known)
+    (c.names_are_in_the_order_of_their_numbers.ensures n) in
     ap (λ (es : List Entry). get_or es n none) table_is ∙ get_or-map entry_named all_names n unnamed none known
     ∙ (λ i. entry_in rows (at.0 i) (at.1 i)) ∙ ap (λ o. entry_in rows o (mnemonic o)) c.number.ensures.value
 
