@@ -14,6 +14,7 @@ TOP = Path(__file__).resolve().parent.parent
 EXAMPLES = {
     "decode": ("decode_code", "0 0\n", {"main.rt.txt": "src/main.rt", "Invariants.antt.txt": "proofs/pass/Invariants.antt"}),
     "addresses": ("address_lines", "", {"main.rt.txt": "src/main.rt"}),
+    "flows": ("flow_lines", "", {"main.rt.txt": "src/main.rt"}),
 }
 
 

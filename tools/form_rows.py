@@ -57,9 +57,15 @@ WHOLE = {
 }
 # the words of a letter's definition, and their types
 TYPE_OF = {"slot": "RegisterSlot", "class": "RegisterClass"}
+# the letters that are the operand of reg or of rm, each with its width
+MM = {"Gmm": ("G", "Mm"), "Emm": ("E", "Mm"), "Umm": ("E", "Mm"), "StRm": ("E", "St")}
+# the words of the sizes in bytes
+BYTES = {0: "Zero", 1: "One", 2: "Two", 4: "Four", 8: "Eight", 10: "Ten", 16: "Sixteen", 48: "FortyEight", UNDECIDED: "Undecided", 64: "SixtyFour"}
+# the last operands that are read at once
+AT_ONCE = ("I8", "U8", "U16", "I32", "Iv", "Ivq", "Ip", "ConstantI8", "ConstantU8", "Implied")
 # where a table's names are: the types, and the enums whose variants it has
-TYPES = {"plans": ["OperandEncoding", "PointerSlot", "RegisterSlot"], "rows": ["FormRow", "Reg", "Rm"], "": ["Size"]}
-ENUMS = {"plans": ["OperandEncoding", "OperandEncodings"], "rows": ["Names", "RowSize", "When"]}
+TYPES = {"plans": ["OperandEncoding", "PointerSlot", "RegisterSlot"], "rows": ["Reg", "Rm", "TemplateRow"]}
+ENUMS = {"plans": ["OperandEncoding"], "rows": ["Names", "When"]}
 
 
 @dataclass
@@ -95,6 +101,12 @@ class Row:
         needs, forbids = self.marks()
         prefixed = marks.issuperset(needs) and marks.isdisjoint(forbids)
         return placed and fits and prefixed and self.is_at(reg) and self.is_named(reg, rm)
+
+    def is_sure(self):
+        """Whether the row is read at once wherever its place, reg and names are."""
+        read = self.error is None and self.names is not None and self.change is None
+        by_rm = isinstance(self.names, list) and self.names[0] == "by_rm"
+        return read and self.when == "Always" and self.rm == "Any" and not by_rm and Template(self.operands).is_plain()
 
     def opcodes(self):
         """The opcodes that the row names."""
@@ -240,16 +252,22 @@ def checked(function, form, rows):
 def letters():
     """The words for one operand, each with what it stands for."""
     text = (CRATES / "x86_operands" / "specs" / "Words.antt").read_text()
-    answer = {}
-    for word, letter, of in re.findall(r"^(\w+) = encoding\.(\w+) (.+)$", text, re.M):
-        parts = [re.sub(r"(\w+)\.", lambda kind: f"{TYPE_OF[kind[1]]}::", part) for part in of.replace("(pos 1)", "1").split()]
-        answer[word] = f"{letter}({', '.join(parts)})"
-    return answer
+    return {word: [letter, *of.split()] for word, letter, of in re.findall(r"^(\w+) = encoding\.(\w+) (.+)$", text.replace("(pos 1)", "1"), re.M)}
 
 
 def constant(word):
     """The constant of a word for one operand."""
     return re.sub(r"(?<=[a-z])(?=[A-Z])", "_", word).upper()
+
+
+def typed(text):
+    return re.sub(r"(\w+)\.(?=\w)", lambda kind: f"{TYPE_OF[kind[1]]}::", text)
+
+
+def spelling(word):
+    """What a constant is."""
+    letter, *of = letters()[word]
+    return f"{letter}({', '.join(map(typed, of))})"
 
 
 def letter(words):
@@ -259,7 +277,42 @@ def letter(words):
     word, *of = words
     of = [*of, "0"] if word == "Z" else of
     slot = {"Z": "RegisterSlot::", "Implied": "RegisterSlot::", "At": "PointerSlot::"}.get(word, "")
-    return f"{word}({slot}{', '.join(of)})".replace("class.", "RegisterClass::")
+    return typed(f"{word}({slot}{', '.join(of)})")
+
+
+class Template:
+    """The operands of a row: their order, the widths of reg and rm, and the last ones."""
+
+    def __init__(self, operands):
+        self.reg, self.of_opcode, self.rm, self.last, order = "B", False, None, [], []
+        for words in operands[1:] if isinstance(operands, list) else []:
+            head, *of = letters().get(words, [words]) if isinstance(words, str) else words
+            of = [each.removeprefix("width.") for each in of]
+            if head in MM:
+                head, *of = MM[head]
+            if head in ("E", "U"):
+                self.rm = of[0]
+                order.append("E")
+            elif head == "G" or head == "A" or (head == "Z" and of[0] == "Reg"):
+                self.reg, self.of_opcode = of[-1], head == "Z"
+                order.append("G" if head == "G" else "R")
+            else:
+                order.append("IX"[len(self.last)])
+                self.last.append((head, letter(words)))
+        self.order = "_".join(order) or "NO"
+
+    def is_plain(self):
+        return len(self.last) < 2 and all(head in AT_ONCE for head, _ in self.last)
+
+    def __str__(self):
+        last, extra = [text for _, text in self.last] + ["ABSENT"] * (2 - len(self.last))
+        return f"{self.order} {self.reg} {str(self.of_opcode).lower()} {self.rm or 'B'} {last}, {extra}"
+
+
+def size_word(text):
+    """The word of a size."""
+    of = re.fullmatch(r"Of\(Size::(\w+)\)", text)
+    return of[1] if of else BYTES[int(re.fullmatch(r"Bytes\((\d+)\)", text)[1])]
 
 
 def names(words, numbers):
@@ -273,14 +326,14 @@ def entry(each, numbers):
     """A row as the table has it."""
     when = each.when if isinstance(each.when, str) else f"Opcode({numbers[each.when[1]]})"
     at = f"{each.place} Reg::{each.reg}, Rm::{each.rm}; {when}"
-    operands = each.operands
-    operands = operands if isinstance(operands, str) else f"{operands[0]}({', '.join(map(letter, operands[1:]))})"
+    operands = Template(each.operands)
     if each.error:
-        return f"refusal!({at}; {operands}; {each.error})"
+        return f"refused!({at}; {operands}; {each.error})"
+    sizes = " ".join(map(size_word, each.sizes))
     if each.names is None:
-        return f"suffixed!({at}; {operands}; {'; '.join(each.sizes)})"
+        return f"suffixed!({at}; {operands}; {sizes})"
     change = f"; {each.change}" if each.change else ""
-    return f"read!({at}; {names(each.names, numbers)}; {operands}; {'; '.join(each.sizes)}{change})"
+    return f"read!({at}; {names(each.names, numbers)}; {operands}; {sizes}{change})"
 
 
 def spelled(each):
@@ -293,11 +346,6 @@ def spelled(each):
 def noted(text, note):
     """A line of a table with a comment, if there is one."""
     return f"{text}, // {note}" if note else f"{text},"
-
-
-def array(name, entries, notes):
-    lines = (f"    {noted(*each)}" for each in zip(entries, notes))
-    return ["", f"const {name}: &[FormRow; {len(entries)}] = &[", *lines, "];"]
 
 
 def in_order(words):
@@ -313,7 +361,7 @@ def use_lines(uses):
         if len(line) <= 100:
             yield line
         else:
-            yield from [f"use {path}::{{", *textwrap.wrap(f"{listed},", 99, initial_indent="    ", subsequent_indent="    "), "};"]
+            yield from [f"use {path}::{{", *textwrap.wrap(f"{listed},", 100, initial_indent="    ", subsequent_indent="    "), "};"]
 
 
 def variants(path, name):
@@ -324,7 +372,7 @@ def variants(path, name):
 def imports(crate, constants, entries, others):
     """The imports of a table: what its constants and its rows name, and others."""
     of = {path: {*listed} for path, listed in others.items()}
-    typed = {"FormRow", *re.findall(r"(?<![\w:])(\w+)::", "\n".join([*constants, *entries]))}
+    typed = {"TemplateRow", *re.findall(r"(?<![\w:])(\w+)::", "\n".join([*constants, *entries]))}
     typed.update(["OperandEncoding"] if constants else [])
     named = {*re.findall(r"(?<![\w:])\w+", "\n".join([*constants, *entries]))}
     found = [(f"{crate}::{path}".removesuffix("::"), typed.intersection(types)) for path, types in TYPES.items()]
@@ -338,50 +386,36 @@ def imports(crate, constants, entries, others):
     return [*use_lines(of)]
 
 
-def by_ordinal(forms, every, notes, left_out):
-    """The function from a plain form to its rows: a table of all rows, and where those of each ordinal are."""
-    rows, spans = [f"{each}," for each in left_out], []
+def placed(function, forms):
+    """Where the rows of each form are in the table, the first and the one after the last; a form that has none has the first row."""
+    every, place, answer = rows_of(function), 1, {}
     for form in forms:
-        here = every.get(form, [])
-        span = f"({len(rows)}, {len(rows) + len(here)})" if here else f"(0, {len(left_out)})"
-        spans += [f"{span}, // {form}"] * (CARRIED if forms[form] else 1)
-        rows += [noted(each, " ".join([form, note]).strip()) for each, note in zip(here, notes.get(form, []))]
+        here = len(every.get(form, []))
+        answer[form] = (place, place + here) if here else (0, 1)
+        place += here
+    return answer
+
+
+def row_tables(function, forms, numbers):
+    """The table of all rows, and where those of each ordinal are."""
+    every, spans = rows_of(function), placed(function, forms)
+    rows = [(entry(every["f"][0], numbers), "")]
+    rows += [(entry(each, numbers), f"{name_of(form)} {spelled(each)}".strip()) for form in forms for each in every.get(form, [])]
     yield from ["", "/// The rows of all forms, after that of a form that has none."]
-    yield from [f"pub(crate) const ROWS: &[FormRow; {len(rows)}] = &[", *(f"    {row}" for row in rows), "];"]
+    yield from [f"pub(crate) const ROWS: &[TemplateRow; {len(rows)}] = &[", *(f"    {noted(*row)}" for row in rows), "];"]
+    lines = [line for form in forms for line in [f"    {spans[form]}, // {form}"] * (CARRIED if forms[form] else 1)]
     yield from ["", "/// The first row of each ordinal, and the one after its last. A form that carries a number has eight ordinals."]
-    yield from [f"pub(crate) const SPANS: &[(u16, u16); {len(spans)}] = &[", *(f"    {span}" for span in spans), "];"]
-    yield from ["", "/// All rows, the first one of a form, and the one after its last.", "fn span_of(form: Form) -> (&'static [FormRow], u16, u16)"]
-    yield from ["    ensures ordered { result.1 ≤ result.2 }", "    ensures inside { result.2 ≤ length result.0.now }"]
-    yield from ["    ensures rows { take (result.2 - result.1) (drop result.1 result.0.now) ≡ form_rows form }"]
-    yield from ["{", "    let (first, end) = SPANS[form.first_ordinal() as usize];", "    (ROWS, first, end)", "}"]
-    yield from ["", "/// The rows of a form.", "pub(crate) fn form_rows(form: Form) -> &'static [FormRow]"]
-    yield from ["    ensures { result.now ≡ form_rows form }", "{", "    let (rows, first, end) = span_of(form);"]
-    yield from ["    &rows[first as usize..end as usize]", "}"]
+    yield from [f"pub(crate) const SPANS: &[(u16, u16); {len(lines)}] = &[", *lines, "];"]
 
 
-def by_match():
-    """The function from a group to its rows."""
-    yield from ["", "/// The rows of a form.", f"#[tactic(auto, unfolding(crate::specs::Rows::{GROUPS}))]"]
-    yield from [f"pub(crate) fn {GROUPS}(form: Form) -> &'static [FormRow]", f"    ensures {{ result.now ≡ {GROUPS} form }}", "{"]
-    named = [form for form in rows_of(GROUPS) if form != "f"]
-    yield from ["    match form {", *(f"        Form::{form} => ROWS_{name_of(form).upper()}," for form in named)]
-    yield from ["        _ => LEFT_OUT,", "    }", "}"]
-
-
-def table(function, forms, numbers, others, between=()):
-    """The lines of a table of rows from the imports on, for the forms that the function has rows of."""
-    every = {form: [entry(each, numbers) for each in rows] for form, rows in rows_of(function).items()}
-    notes = {form: [spelled(each) for each in rows] for form, rows in rows_of(function).items()}
-    left_out = every.pop("f")
-    entries = [each for rows in every.values() for each in rows]
-    used = {name for each in entries for name in re.findall(r"(?<![\w:])\w+", each.split(";", 2)[2])}
-    constants = [f"const {constant(word)}: OperandEncoding = {of};" for word, of in letters().items() if constant(word) in used]
-    crate = CRATE_OF[function]
-    prelude = "◌≡◌, ◌≤◌, ◌-◌, length, take, drop" if function == PLAIN else "◌≡◌"
-    lines = [f"ghost use Rattle.std.specs.Prelude.{{{prelude}}};", f"ghost use Rattle.{crate}.specs.Rows.{{{function}}};", ""]
-    lines += imports("crate" if function == PLAIN else "x86_operands", constants, [*entries, *left_out], {"x86_forms": ["Form"], **others})
-    lines += [line for each in constants for line in ("", each)]
-    if function == PLAIN:
-        return lines + [*by_ordinal(forms, every, notes, left_out)]
-    lines += [line for form, rows in every.items() for line in array(f"ROWS_{name_of(form).upper()}", rows, notes[form])]
-    return lines + [*between, "", "/// The rows of a form that has none.", *array("LEFT_OUT", left_out, [""])[1:], *by_match()]
+def table(function, forms, numbers, others, more):
+    """The lines of a table of rows from the imports on, for the forms that the function has rows of, and more tables."""
+    rows = [row for form in ["f", *forms] for row in rows_of(function).get(form, [])]
+    operands = [text for row in rows for _, text in Template(row.operands).last]
+    constants = ["const ABSENT: OperandEncoding = OperandEncoding::ABSENT;"]
+    constants += [f"const {constant(word)}: OperandEncoding = {spelling(word)};" for word in letters() if constant(word) in operands]
+    columns = [f"{names(row.names, numbers)} Reg::{row.reg} Rm::{row.rm} {entry(row, numbers).split('; ')[1]}" for row in rows if row.names]
+    columns += [entry(row, numbers).split("; ")[1] for row in rows]
+    crate = "crate" if function == PLAIN else "x86_operands"
+    answer = imports(crate, constants, [*operands, *columns], others)
+    return answer + [line for each in constants for line in ("", each)] + [*row_tables(function, forms, numbers)] + more

@@ -11,7 +11,7 @@ or a tool of an example, is missing, the examples that need it are skipped with 
 
 The examples of docs/USAGE.md are run again with other addresses in place of theirs, those of a library and of a kernel, and then with a text
 that comes in pieces; and its recipes over code of bash of one and of two megabytes: with twice the text no command may take more than three
-times the processor time, and a second, or 8 MB more memory.
+times the processor time, and a second, or 8 MB more memory. What they print of such code is held against objdump (tools/recipes.py).
 
 Examples of README.md, docs/GUIDE.md and crates/*/README.md: each indented block is in one of the files of `CODE`, or of `TESTS`, line by line,
 only further to the right, and so is what docs/GUIDE.md prints after a command (the gate compares it with what the programs print).
@@ -20,6 +20,10 @@ Each crate of crates.txt has a README.md, of ten to thirty lines.
 Quoted code of the pages of `QUOTING`: each indented line that isn't a command, nor of a drawing, is a line of some file of crates/, letter
 by letter. The links of the pages of `LINKING` are to files and headings that are there (tools/theorem.py writes their code). Each file that
 README.md or a page of docs/ names by its crate, by tools/ or by docs/ is there, but for those of docs/CHANGES.md.
+
+Figures of a page that are older than the code that they measure are named.
+
+Counts of rows, names, forms, C functions and worked encodings on README.md and the pages of `read_counts` are those of the sources.
 
 Reasons of tools/compare: those of tools/judge/reasons.c are the rows of their section of docs/DIFFERENCES.md. The modules of lemmas in docs/DECISIONS.md are those that proofs of x86_decode import.
 """
@@ -34,11 +38,14 @@ import tempfile
 import time
 from pathlib import Path
 
+sys.dont_write_bytecode = True
+import recipes
+import tables
+from sources import CODE as CODE_PATHS
+from sources import TOP, built, git, packages, worked_lines
 
-TOP = Path(__file__).resolve().parent.parent
-CRATE = re.search(r"^PROGRAM_CRATE=(\w+)$", (TOP / "tools" / "program.sh").read_text(), re.M)[1]
-PROGRAM = Path(os.environ.get("PROGRAM") or TOP / "crates" / CRATE / "out" / CRATE).resolve()
-SHOW = Path(os.environ.get("SHOW") or TOP / "crates" / "x86_show" / "out" / "x86_show").resolve()
+PROGRAM, SHOW = built("x86", "PROGRAM"), built("x86_show", "SHOW")
+ENVIRONMENT = os.environ | {"SHOW": "./show"}  # for `dis`
 SECONDS = 60
 BASE, LIBRARY, KERNEL = 0x401000, 0x7FFFF7A00000, 0xFFFFFFFF81000000
 IN_ONE = """#!/bin/sh
@@ -53,13 +60,12 @@ IN_PIECES = """#!/bin/sh
 BIG = 1000000
 TIMES, SPARE_SECONDS, SPARE_KILOBYTES = 3, 1, 8192
 CODE = [f"crates/x86_vectors/src/{name}.rt" for name in ("guide_tests", "rebuilder", "two_buffers")]
-CODE += [f"crates/{name}/{file}" for name in ("guide_first", "guide_listing") for file in ("src", "stdout")]
+CODE += [f"crates/{name}/{file}" for name in ("guide_first", "guide_listing", "guide_blocks") for file in ("src", "stdout")] + ["crates/guide_mover/src"]
 TESTS = ["crates/x86_vectors/src", "crates/x86_runs/src"]
 QUOTING = ["docs/ROWS.md", "docs/ENCODING.md", "docs/ARCHITECTURE.md", "CONTRIBUTING.md"]
 TOOLS_OF_COSTS = "objcopy xxd readelf perl"
 LINKING = ["docs/THEOREM.md", "docs/DEFINITIONS.md"]
 NAMING = [f"docs/{page.name}" for page in sorted((TOP / "docs").glob("*.md")) if page.name != "CHANGES.md"]
-PACKAGES = dict(line.split() for line in (TOP / "tools" / "packages").read_text().splitlines())
 
 
 def blocks(page, section=""):
@@ -91,14 +97,14 @@ def examples(page, section=""):
 def lacking(command):
     """What a command needs and isn't there."""
     lacks_show = "./show" in command and not os.access(SHOW, os.X_OK)
-    packages = [f"the package {of}" for tool, of in PACKAGES.items() if re.search(rf"\b{tool}\b", command) and shutil.which(tool) is None]
-    return packages + ["x86_show"] * lacks_show
+    missing = [f"the package {of}" for tool, of in packages().items() if re.search(rf"\b{tool}\b", command) and shutil.which(tool) is None]
+    return missing + ["x86_show"] * lacks_show
 
 
 def run(command, folder):
     """What a command writes to standard output and to standard error, and its status, which is None where it took too long."""
     how = {"stdin": subprocess.DEVNULL, "stdout": subprocess.PIPE, "stderr": subprocess.PIPE, "text": True}
-    started = subprocess.Popen(["sh", "-c", command], cwd=folder, start_new_session=True, **how)
+    started = subprocess.Popen(["sh", "-c", command], cwd=folder, env=ENVIRONMENT, start_new_session=True, **how)
     try:
         return (*started.communicate(timeout=SECONDS), started.returncode)
     except subprocess.TimeoutExpired:
@@ -121,14 +127,15 @@ def program_in(folder, in_pieces=False):
         (Path(folder) / name).write_text(script.replace("PROGRAM", str(program)))
         (Path(folder) / name).chmod(0o755)
     shutil.copytree(TOP / "examples", Path(folder) / "examples")
-    (Path(folder) / "tools").symlink_to(TOP / "tools")
+    for name in ("tools", "dis"):
+        (Path(folder) / name).symlink_to(TOP / name)
 
 
 def moved(text, base):
-    """A command, or what it prints, with other addresses: those from BASE on, and those of the sections of a file, but not where objdump seeks
-    a symbol, which it then doesn't find."""
+    """A command, or what it prints, with other addresses: those from BASE on, and those of the sections of a file, but not beside `dis`, which
+    has those of the file."""
     text = re.sub(r"\b(?:0x)?(40[01][0-9a-f]{3})\b", lambda it: it[0].replace(it[1], f"{base - BASE + int(it[1], 16):x}"), text)
-    return re.sub(r"\bobjdump (?!.*--disassemble=)", f"objdump --adjust-vma={base:#x} ", text)
+    return text if "./dis" in text else re.sub(r"\bobjdump ", f"objdump --adjust-vma={base:#x} ", text)
 
 
 def run_examples(page, base=BASE, in_pieces=False):
@@ -169,7 +176,7 @@ def run_statuses(page):
 def costs(command, folder):
     """The processor seconds and the most kilobytes of any process of a command, or None where it took too long."""
     silent = {"stdin": subprocess.DEVNULL, "stdout": subprocess.DEVNULL, "stderr": subprocess.DEVNULL}
-    started, ends = subprocess.Popen(["sh", "-c", command], cwd=folder, start_new_session=True, **silent), time.monotonic() + SECONDS
+    started, ends = subprocess.Popen(["sh", "-c", command], cwd=folder, env=ENVIRONMENT, start_new_session=True, **silent), time.monotonic() + SECONDS
     while time.monotonic() < ends:
         pid, started.returncode, usage = os.wait4(started.pid, os.WNOHANG)
         if pid:
@@ -209,6 +216,15 @@ def measure_recipes(page):
             print(f"pages: {page}: seconds and kilobytes over {BIG} bytes {once}, over twice as many {twice}: {command}", file=sys.stderr)
             wrong += 1
     return wrong
+
+
+def try_recipes(page):
+    """Tries the recipes over a stranger's code, and answers how many aren't right."""
+    if lacking(TOOLS_OF_COSTS) or not os.access("/bin/bash", os.R_OK):
+        return 0
+    with tempfile.TemporaryDirectory() as folder:
+        program_in(folder)
+        return recipes.tried(page, [command for command, _ in examples(page, "## Recipes") if not lacking(command)], run, folder)
 
 
 def dedent(lines):
@@ -270,7 +286,8 @@ def read_links(page):
     wrong = 0
     for link, heading in re.findall(r"\]\((?!https?:)([^)#]+)#?([^)]*)\)", (TOP / page).read_text()):
         target = TOP / "docs" / link
-        if not target.exists() or (heading and heading not in anchors(target)):
+        places = anchors(target) if target.suffix == ".md" else {f"L{at + 1}" for at in range(target.read_text().count("\n"))} if target.is_file() else ()
+        if not target.exists() or (heading and heading not in places):
             print(f"pages: {page}: a link to nothing: {link} {heading}", file=sys.stderr)
             wrong += 1
     return wrong
@@ -306,19 +323,49 @@ def read_lemmas(page):
     return len(unlike)
 
 
+def read_counts():
+    """Holds the counts of the pages against the sources, and answers how many are others, or aren't there."""
+    rows = sum(len(each) for each in tables.rows().values())
+    groups = (TOP / "crates/x86_forms/specs/Groups.antt").read_text().count("form.")
+    functions = len(re.findall(r"^(?!-|#)", (TOP / "tools/trusted.txt").read_text().rstrip(), re.M))
+    counts = {
+        r"opcode maps\s+as (\S+) rows": (["README.md"], [rows]),
+        r"(\d+) names\b": (["docs/DECISIONS.md", "crates/x86_opcodes/README.md"], [len(tables.names())]),
+        r"Of the (\d+) forms (\d+) are groups": (["docs/ROWS.md"], [len(tables.forms()), groups]),
+        r"contracts of (\d+) C functions": (["README.md", "docs/PROVED.md"], [functions]),
+        r"([\d,]+) (?:worked\s+)?encodings": (["README.md", "docs/PROVED.md", "crates/x86_vectors/README.md"], [len(worked_lines()) // 100 * 100]),
+    }
+    wrong = 0
+    for said, (named, wanted) in counts.items():
+        for page in named:
+            found = re.search(said, (TOP / page).read_text())
+            got = [int(number.replace(",", "")) for number in found.groups()] if found else []
+            wrong += differs(page, said, "counts", got, wanted)
+    return wrong
+
+
+def name_old_figures(page):
+    """Names the figures of a page, as `2026-12-01, commit 20ae410f`, after whose commit the code of crates/ changed. It fails nothing."""
+    for date, commit in re.findall(r"(\d{4}-\d\d-\d\d)[^.|]{0,40}? commit ([0-9a-f]{7,12})\b", (TOP / page).read_text()):
+        if (count := git("rev-list", "--count", f"{commit}..HEAD", *CODE_PATHS)) not in ("", "0"):
+            print(f"pages: {page}: figures of {date}, commit {commit}, are older than the code: {count} commits have changed it since")
+
+
 def main():
     readmes = [f"crates/{crate}/README.md" for crate in re.findall(r"^(\w+)\b.*:", (TOP / "crates.txt").read_text(), re.M)]
     wrong = read_guide("docs/GUIDE.md", CODE, has_outputs=True) + read_guide("README.md", CODE) + sum(read_quotes(page) for page in QUOTING)
     wrong += sum(read_size(page) or read_guide(page, TESTS) for page in readmes)
     wrong += sum(read_links(page) for page in LINKING) + read_reasons("docs/DIFFERENCES.md")
-    wrong += sum(read_paths(page) for page in ["README.md", *NAMING]) + read_lemmas("docs/DECISIONS.md")
+    wrong += sum(read_paths(page) for page in ["README.md", *NAMING]) + read_lemmas("docs/DECISIONS.md") + read_counts()
     if os.access(PROGRAM, os.X_OK):
         wrong += run_examples("README.md") + sum(run_examples(page) for page in readmes if (TOP / page).exists())
         wrong += run_examples("docs/USAGE.md") + run_statuses("docs/USAGE.md")
         wrong += run_examples("docs/USAGE.md", LIBRARY, in_pieces=True) + run_examples("docs/USAGE.md", KERNEL)
-        wrong += measure_recipes("docs/USAGE.md")
+        wrong += measure_recipes("docs/USAGE.md") + try_recipes("docs/USAGE.md")
     else:
         print(f"pages: skipped, {PROGRAM} is missing: the examples", file=sys.stderr)
+    for page in ("docs/PERFORMANCE.md", "docs/COMPARED.md", "docs/DIFFERENCES.md", "tools/budgets.txt"):
+        name_old_figures(page)
     if wrong == 0:
         print("pages: passed")
     return 1 if wrong else 0

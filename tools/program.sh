@@ -1,7 +1,7 @@
 # What the scripts `x86` and `show`, the gate and the tools share: where a program is, of which sources and by which kit it was built, which crates
 # it is made of, and how it starts. They read this file by `. tools/program.sh`, where `top` is the folder of the repository.
 
-VERSION=1.0-dev
+VERSION=1.0
 
 # The crate of the program, and the folder of the sources that say which words are its commands.
 PROGRAM_CRATE=x86

@@ -1,7 +1,11 @@
-"""What the definitions of crates/ are called, where they are, and which names each of them uses. tools/theorem.py reads it."""
+"""What several scripts read: what the definitions of crates/ are called, where they are, and which names each of them uses; the worked lines; the
+built programs; and the packages of tools."""
 
 import functools
+import os
 import re
+import shutil
+import subprocess
 from pathlib import Path
 
 TOP = Path(__file__).resolve().parent.parent
@@ -16,6 +20,38 @@ KEYWORDS = set("abbrev unfoldable pub record data module where let in use as if 
 
 class Missing(Exception):
     """A name that the sources don't define as they should."""
+
+
+def built(crate, variable):
+    """The program of a crate, as the gate or a start left it, or the one that a variable names."""
+    return Path(os.environ.get(variable) or CRATES / crate / "out" / crate).resolve()
+
+
+@functools.cache
+def packages():
+    """Debian's package of each tool that may be missing."""
+    return dict(line.split() for line in (TOP / "tools" / "packages").read_text().splitlines())
+
+
+def package(*tools):
+    """That the package of one of these tools is missing, or None."""
+    missing = next((tool for tool in tools if shutil.which(tool) is None), None)
+    return missing and f"the package {packages().get(missing, missing)} is missing"
+
+
+# The code whose changes make a figure older: all but the tests.
+CODE = ["--", "crates/*/src/*.rt", ":!crates/x86_vectors", ":!crates/x86_runs"]
+
+
+def git(*words):
+    """What git prints, or nothing without it."""
+    return subprocess.run(["git", *words], cwd=TOP, capture_output=True, text=True).stdout.strip() if shutil.which("git") else ""
+
+
+def worked_lines():
+    """The worked lines of x86_vectors: an encoding in hex digits, and what is listed of it."""
+    line = re.compile(r'^(?:.*")?((?:[0-9a-f]{2} ?)+) => (\d+ .*?)(?:";)?$', re.M)
+    return [found for path in sorted((CRATES / "x86_vectors" / "src").glob("*.rt")) for found in line.findall(path.read_text())]
 
 
 def indent(line):

@@ -14,7 +14,7 @@ The lists, which people edit:
     crates/x86_groups/specs/Rows.antt          the rows of the groups, a line for each row
     crates/x86_show/specs/Text/Entries.antt    how `show` writes an operation, a line for each that isn't written as its name
 
-Of the two before the last, tools/form_rows.py writes the tables of rows, and tools/form_lines.py the lines that say the same.
+tools/form_rows.py writes the tables of rows, and tools/form_cells.py which of them form, mod and reg alone choose.
 
 Nothing rests on this script. What it writes is checked like all other code: that the constants have the numbers and
 spellings of their names, that each form is at its ordinal, and that each table has the words of the rows, is proved.
@@ -26,7 +26,7 @@ import sys
 import textwrap
 from pathlib import Path
 
-import form_lines
+import form_cells
 import form_rows
 
 TOP = Path(__file__).resolve().parent.parent
@@ -109,8 +109,8 @@ def rows():
 def registers():
     """The classes of registers in the order of the list, each with the names by number."""
     text = (REGS / "specs" / "Names.antt").read_text()
-    classes = re.findall(r"^names_of (\w+) = (.*) ∷ \[\]$", text, re.M)
-    return [(of, [re.sub(r'codes "(.*)"|\[\]', r"\1", name) for name in names.split(" ∷ ")]) for of, names in classes]
+    classes = re.findall(r"^names_of (\w+) = ((?:.|\n )*?) ∷ \[\]$", text, re.M)
+    return [(of, [re.sub(r'codes "(.*)"|\[\]', r"\1", name) for name in re.split(r" ∷\s+", names)]) for of, names in classes]
 
 
 def strangers():
@@ -168,8 +168,7 @@ def names_rt():
     lines += note("//!", "specs/Mnemonics.antt") + ["use crate::Opcode;", "", "impl Opcode {"]
     for number, name in enumerate(names()):
         lines += [f"    pub const {name}: Opcode = Opcode {{ number: {number} }};", ""]
-    lines[-1] = "}"
-    lines += ["", "/// How many names there are, `Invalid` among them.", f"pub(crate) const OPCODES: u16 = {count};"]
+    lines += ["    /// How many names there are, `Invalid` among them: the size of a table by `number`.", f"    pub const COUNT: usize = {count};", "}"]
     lines += ["", "/// How many constants a table has. The last one has what is left.", f"pub(crate) const PART: u16 = {PART};"]
     lines += ["", *NAMED]
     for part in range(0, count, PART):
@@ -276,29 +275,20 @@ def entries_rt():
     return lines + [f'    entry!(b"{text:<16}", {len(text)}, b"{letters}"),' for text, letters in entries()] + ["];"]
 
 
-def form_lines_rt():
-    lines = ["//! The operand encodings of the forms: a line a form, in the order of the variants of `Form`.", "//!"]
-    lines += note("//!", "specs/Rows.antt") + ["use crate::AfterOpcode::{ByPlan, ByReg, Group};", "use crate::plans::ModrmUse;"]
-    lines += ["use crate::{FormEncoding, RegGroup};", "", "/// The line of each form by the number that words have for it. A form that carries a number has eight."]
-    entries = form_lines.lines(dict(forms()))
-    return lines + [f"pub(crate) const ENCODINGS: &[FormEncoding; {len(entries)}] = &[", *entries, "];"]
-
-
-def rows_rt(of, function, others, between=()):
+def rows_rt(of, function, others, more):
     """A table of the rows of plain forms, or of groups."""
     lines = [f"//! The rows of {of}: where, the prefixes, and what is there. A name is the number of an opcode, which", "//! the comment spells, and 0 is none.", "//!"]
     lines += note("//!", "specs/Rows.antt")
-    return lines + form_rows.table(function, dict(forms()), numbers(), others, between)
+    return lines + form_rows.table(function, dict(forms()), numbers(), others, more)
+
+
+def plain_tables_rt():
+    return rows_rt("the plain forms", form_rows.PLAIN, {"crate::heads": ["After", "Head", "head"]}, form_cells.heads(dict(forms())))
 
 
 def group_tables_rt():
-    others = {
-        "crate::by_reg": ["RegLine", "line", "rows_alone"],
-        "x86_operands": ["encoded", "other", "read", "refusal", "suffixed"],
-        "x86_operands::AfterOpcode": ["ByPlan"],
-        "x86_operands::plans": ["ModrmUse"],
-    }
-    return rows_rt("the groups", form_rows.GROUPS, others, form_lines.reg_lines(numbers()))
+    others = {"crate::cells": ["Cell", "cell"], "x86_operands": ["read", "refused", "suffixed"]}
+    return rows_rt("the groups", form_rows.GROUPS, others, [*form_cells.cells(dict(forms()), numbers())])
 
 
 def written():
@@ -309,8 +299,7 @@ def written():
         FORMS / "specs" / "Ordinals.antt": ordinals_antt(),
         FORMS / "src" / "ordinals.rt": ordinals_rt(),
         FORMS / "src" / "tables.rt": tables_rt(),
-        OPERANDS / "src" / "lines.rt": form_lines_rt(),
-        OPERANDS / "src" / "tables.rt": rows_rt("the plain forms", form_rows.PLAIN, {}),
+        OPERANDS / "src" / "tables.rt": plain_tables_rt(),
         GROUPS / "src" / "tables.rt": group_tables_rt(),
         TEXT / "src" / "mnemonics.rt": mnemonics_rt(),
         TEXT / "src" / "registers.rt": registers_rt(),

@@ -1,5 +1,5 @@
 #!/usr/bin/env python3
-"""Writes docs/THEOREM.md and docs/DEFINITIONS.md from tools/theorem.txt, tools/definitions.txt and the sources.
+"""Writes docs/THEOREM.md and its index, docs/DEFINITIONS.md, from tools/theorem.txt, tools/definitions.txt and the sources.
 
     python3 tools/theorem.py            writes the pages
     python3 tools/theorem.py --check    says whether the pages are what it would write
@@ -14,6 +14,7 @@ The templates are the pages with five kinds of lines in place of code, whose pat
     @- PATH NAME.. | ..  a row of a table: names that are linked and not shown, and what they are. `*` are all of the file
     @index               where each name of both pages is
 
+THEOREM.md has the code itself, and DEFINITIONS.md names, by section and file: the code is where the links lead, file and line.
 A name that a definition or a clause uses must be shown, linked, or explained in Notation, and has one definition; a name in
 the text of a page must be one of these too. A field that is shown has the name of a definition only where Notation says so.
 A clause of a table of THEOREM.md, PROVED.md or README.md must be one of the call that it names.
@@ -26,7 +27,7 @@ sys.dont_write_bytecode = True
 from sources import CRATES, TOP, Missing, clause_uses, definition, indent, module, uses
 
 PAGES = {"docs/THEOREM.md": "tools/theorem.txt", "docs/DEFINITIONS.md": "tools/definitions.txt"}
-MOST = 550
+MOST = 400
 # The longest line of code in THEOREM.md, which breaks longer ones of the sources.
 WIDE = 136
 # Where Notation says which fields have the name of a function.
@@ -43,37 +44,23 @@ def anchor(heading):
     return re.sub(r"[^\w\- ]", "", heading.lower()).replace(" ", "-")
 
 
-def aliases(path, names):
-    """What the file calls otherwise than where it is defined, as far as these definitions do."""
-    found = []
-    text = "\n".join(line for name in names for line in module(path).text(name))
-    for name, (words, own) in module(path).imports.items():
-        if own == "*" and re.search(rf"(?<![\w.]){name}\.", text):
-            found.append(f"{words[-2] if words[-1] == 'TheVariants' else words[-1]} as {name}")
-        elif own not in ("*", name) and re.search(rf"(?<![\w.]){name}(?![\w])", text):
-            found.append(f"{words[-2] + '.' if words[-1] == 'TheVariants' else ''}{own} as {name}")
-    return [f"use {', '.join(found)}"] if found else []
-
-
 def without_comments(lines):
     """The lines without the comments above a definition. Those of a record's fields stay."""
     kept = next(at for at, line in enumerate(lines) if not line.lstrip().startswith("--"))
     return lines[kept:]
 
 
-def block(path, names, brief):
-    """The definitions, with the heads of the modules that they are in; where it is brief, without the comments above them."""
+def block(path, names):
+    """The definitions without the comments above them, with the heads of the modules that they are in."""
     file, out, inside = module(path), [], []
     for name in names:
-        lines = file.text(name)
         above = file.heads_above(file.spans[name][1])
-        out += [""] if out and not brief else []
         for head in above:
             if head not in inside:
-                out += without_comments(head) if brief else head
+                out += without_comments(head)
         inside = above
-        out += without_comments(lines) if brief else lines
-    return out + ([] if brief or not aliases(path, names) else [""]) + aliases(path, names)
+        out += without_comments(file.text(name))
+    return out
 
 
 def wrapped(line):
@@ -237,29 +224,37 @@ class Pages:
         return [at[1:] for at in found if at[0] == "spec"]
 
     def index(self):
-        """A row for each name: where it is shown, and its file."""
-        rows = ["| name | shown in | source |", "|---|---|---|"]
+        """A row for each name: where it is shown, and its file and line."""
+        rows = ["| name | in | source |", "|---|---|---|"]
         keys = {*self.places, *self.types, *self.members, *(key for key in self.linked if key[1] != "*")}
         for path, name in sorted(keys, key=lambda key: (key[1].lower(), key)):
             place = self.places.get((path, name)) or self.types.get((path, name)) or self.members.get((path, name))
             shown = f"[{self.headings[place]}]({place})" if place else "linked"
-            rows.append(f"| `{name}` | {shown} | [{path}](../crates/{path}) |")
+            rows.append(f"| `{name}` | {shown} | [{path}](../crates/{path}#L{line_of(path, name)}) |")
         return "\n".join(rows)
 
-    def code(self, kind, path, rest, brief):
-        """The lines that stand for a command."""
+    def names_at(self, kind, path, rest):
+        """What a command of the index names."""
         if kind != "@@":
-            lines = item(path, rest, kind == "@=")
-            return joined(lines) if path.endswith(".antt") else in_one_line(lines)
-        names = rest.split() if rest != "*" else [n for n in module(path).spans if self.places.get((path, n)) == self.all_of[path, "*"]]
-        if not names:
-            fail(f"nothing uses what {path} defines: take its line out of tools/definitions.txt")
-        return joined(block(path, names, brief)) if brief else block(path, names, brief)
+            return [re.search(r"(?:fn|struct|enum|trait) (\w+)", rest)[1]]
+        return rest.split() if rest != "*" else [n for n in module(path).spans if self.places.get((path, n)) == self.all_of[path, "*"]]
+
+    def code(self, kind, path, rest):
+        """The lines that stand for a command."""
+        if kind == "@@":
+            return joined(block(path, rest.split()))
+        lines = item(path, rest, kind == "@=")
+        return joined(lines) if path.endswith(".antt") else in_one_line(lines)
 
     def text(self, page):
-        out, source, brief = [], None, page == "docs/THEOREM.md"
+        """A page; of the index of each file the names in place of the code."""
+        out, source, is_index = [], None, page != "docs/THEOREM.md"
         for line in self.templates[page]:
-            source = None if line.startswith("#") else source
+            if is_index and source and not re.match(r"@[@!] ", line):
+                if not line:
+                    continue
+                out.append("")
+            source = source if re.match(r"@[@!] |$", line) else None
             if line == "@index":
                 out.append(self.index())
             elif not re.match(r"@[@!=-] ", line):
@@ -269,13 +264,18 @@ class Pages:
                 names, _, what = rest.partition(" | ")
                 shown = ", ".join(f"`{name}`" for name in names.split()) if names != "*" else "all"
                 out.append(f"| [{path}](../crates/{path}) | {shown} | {what} |")
-            else:
+            elif is_index:
                 kind, path, rest = line.split(" ", 2)
-                if path != source and not brief:
-                    out.append(f"From [{path}](../crates/{path}):\n")
+                if not (names := self.names_at(kind, path, rest)):
+                    fail(f"nothing uses what {path} defines: take its line out of tools/definitions.txt")
+                named = ", ".join(f"`{name}`" for name in names)
+                if path == source:
+                    out[-1] += f", {named}"
+                else:
+                    out.append(f"- [{path}](../crates/{path}): {named}")
                 source = path
-                code = self.code(kind, path, rest, brief)
-                out += [("    " + part).rstrip() for it in code for part in (wrapped(it) if brief else [it])]
+            else:
+                out += [("    " + part).rstrip() for it in self.code(*line.split(" ", 2)) for part in wrapped(it)]
         return "\n".join(out) + "\n"
 
     # ---- what a page must have
@@ -306,12 +306,21 @@ class Pages:
             fail(f"Notation says that fields have the name of a function {name}, and none has")
 
     def check_text(self, texts, explained):
-        known = self.names() | explained | OTHER | fields_and_functions(texts)
+        known = self.names() | explained | OTHER | self.fields | fields_and_functions(texts)
         for page, text in texts.items():
             prose = "\n".join(line for line in text.splitlines() if not line.startswith("    "))
             for word in re.findall(r"`([A-Za-z_][\w\-]*)(?:`| )", prose):
                 if word not in known and not re.fullmatch(r"[0-9a-f]{2}", word):
                     fail(f"{page} has the name {word} in its text, which is neither shown nor linked")
+
+
+def line_of(path, name):
+    """The line of a file where a name is defined: a definition of specs/, a type, a function, or a member of a trait."""
+    if path.endswith(".antt") and (found := module(path).spans.get(name)):
+        return found[1] + 1
+    word = re.escape(re.split(r"::|\.", name)[-1])
+    lines = module(path).lines
+    return next((at for at, line in enumerate(lines, 1) if re.search(rf"\b(?:fn|struct|enum|trait|type|ghost|const|static) {word}\b", line)), 1)
 
 
 def all_definitions(shown):

@@ -14,9 +14,8 @@ import sys
 
 import form_rows
 import tables
+from sources import worked_lines
 
-VECTORS = tables.TOP / "crates" / "x86_vectors" / "src"
-LINE = re.compile(r'^(?:.*")?((?:[0-9a-f]{2} ?)+) => (\d+ .*?)(?:";)?$', re.M)
 ACCEPTED = re.compile(r"\d+ \d+ ")  # the place and the length; of a refusal there is one number
 ERRORS = {"BadOpcode": "invalid opcode", "BadOperand": "invalid operand", "Incomplete": "the decoder is incomplete"}
 MARKS = {0xF2: "F2", 0xF3: "F3", 0x66: "66", 0x67: "67"}
@@ -88,7 +87,7 @@ def main():
     every = {**form_rows.rows_of(form_rows.PLAIN), **form_rows.rows_of(form_rows.GROUPS)}
     every.pop("f")
     maps, here = tables.rows(), set()
-    for text, answer in (line for path in VECTORS.glob("*.rt") for line in LINE.findall(path.read_text())):
+    for text, answer in worked_lines():
         if place := found(bytes.fromhex(text), maps):
             (of, row), marks, modrm = place
             here.add(reached(every[row[3]], row[3], modrm, marks, answer))

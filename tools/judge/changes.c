@@ -14,20 +14,11 @@ static bool has(const char *word, size_t length, const char *name)
 
 static int bytes_of(const struct code *code, const char *word, size_t length)
 {
-    int at = 0;
-    while (at < 9 && !has(word, length, widths[at])) at++;
-    switch (at) {
-    case 0: return 1;
-    case 1: return 2;
-    case 2: return 4;
-    case 3: return 8;
-    case 4: return v_bytes(code);
-    case 5: return code->p66 ? 2 : 8;
-    case 6: return !has_w(code) && code->p66 ? 2 : 4;
-    case 7: return has_w(code) ? 8 : 4;
-    case 8: return 16;
-    default: fprintf(stderr, "judge: no width: %.*s\n", (int)length, word); exit(2);
-    }
+    const int bytes[] = {1, 2, 4, 8, v_bytes(code), code->p66 ? 2 : 8, !has_w(code) && code->p66 ? 2 : 4, has_w(code) ? 8 : 4, 16};
+    for (int at = 0; at < 9; at++)
+        if (has(word, length, widths[at])) return bytes[at];
+    fprintf(stderr, "judge: no width: %.*s\n", (int)length, word);
+    exit(2);
 }
 
 static void widen(struct operand *operand, int bytes)
@@ -37,25 +28,16 @@ static void widen(struct operand *operand, int bytes)
     if (operand->kind == REGISTER) operand->reg = ZydisRegisterEncode(classes[bytes], (ZyanU8)ZydisRegisterGetId(operand->reg));
 }
 
-/* Memory at rdi or rsi that zydis doesn't show, by the letter D or S; or NULL. */
-static const ZydisDecodedOperand *hidden_memory(const struct reading *reading, char letter)
-{
-    for (int k = reading->read.operand_count_visible; k < reading->read.operand_count; k++) {
-        const ZydisDecodedOperand *it = &reading->of[k];
-        if (it->type == ZYDIS_OPERAND_TYPE_MEMORY && ZydisRegisterGetId(it->mem.base) == (letter == 'D' ? 7 : 6)) return it;
-    }
-    return NULL;
-}
-
 /* The first operand that zydis doesn't show of those that a letter names: D and S are memory at rdi and rsi, A the accumulator. */
 static struct operand hidden(const struct reading *reading, char letter)
 {
-    const ZydisDecodedOperand *memory = hidden_memory(reading, letter);
-    if (memory && letter != 'A') return (struct operand){.kind = MEMORY, .reg = memory->mem.base, .from = memory};
+    int number = letter == 'D' ? 7 : letter == 'S' ? 6 : 0;
     for (int k = reading->read.operand_count_visible; k < reading->read.operand_count; k++) {
         const ZydisDecodedOperand *it = &reading->of[k];
-        if (it->type == ZYDIS_OPERAND_TYPE_REGISTER && letter == 'A' && ZydisRegisterGetId(it->reg.value) == 0)
-            return (struct operand){.kind = REGISTER, .reg = it->reg.value};
+        bool is_memory = it->type == ZYDIS_OPERAND_TYPE_MEMORY, is_register = it->type == ZYDIS_OPERAND_TYPE_REGISTER;
+        ZydisRegister reg = is_memory ? it->mem.base : it->reg.value;
+        if ((letter == 'A' ? is_register : is_memory) && ZydisRegisterGetId(reg) == number)
+            return (struct operand){.kind = is_memory ? MEMORY : REGISTER, .reg = reg};
     }
     return (struct operand){.kind = TEXT, .text = "?"};
 }
@@ -94,10 +76,7 @@ static void put_texts(struct reading *reading, const char *word, size_t length)
     for (const char *end = word + length; word < end;) {
         size_t size = strcspn(word, ",; ");
         for (size_t k = 0; k < sizeof texts / sizeof *texts; k++)
-            if (has(word, size, texts[k])) {
-                const ZydisDecodedOperand *from = hidden_memory(reading, *texts[k] == '[' ? texts[k][2] - 32 : 'D');
-                put(reading, reading->count, (struct operand){.kind = TEXT, .text = texts[k], .from = from});
-            }
+            if (has(word, size, texts[k])) put(reading, reading->count, (struct operand){.kind = TEXT, .text = texts[k]});
         word += size + 1;
     }
 }

@@ -1,6 +1,5 @@
 /* The head of an encoding. */
 #include "code.h"
-#include <stdio.h>
 
 bool is_prefix(int byte)
 {
@@ -41,12 +40,6 @@ bool has_w(const struct code *code)
     return code->rex & 8;
 }
 
-/* INS, OUTS, MOVS, CMPS, STOS, LODS and SCAS. */
-bool is_string(const struct code *code)
-{
-    return code->map == 0 && ((code->opcode & 0xfc) == 0x6c || (code->opcode & 0xfc) == 0xa4 || (code->opcode >= 0xaa && code->opcode <= 0xaf));
-}
-
 /* The class v in bytes. Where 66 chooses the operation in map 0F38, and at 0F AE, it doesn't choose a size. */
 int v_bytes(const struct code *code)
 {
@@ -72,12 +65,4 @@ size_t spell(const struct code *code, unsigned char *out, size_t *front)
     if (code->modrm >= 0) out[at++] = (unsigned char)code->modrm;
     for (size_t k = code->front + 1; k < code->left && at < 30; k++) out[at++] = code->bytes[k];
     return at;
-}
-
-const char *row_name(int map, int opcode, enum column column)
-{
-    static const char *const maps[] = {"", "0F ", "0F 38 ", "0F 3A "}, *const columns[] = {"", "66 ", "F3 ", "F2 "};
-    static char name[32];
-    snprintf(name, sizeof name, "%s%s%02X", map == 0 ? "" : columns[column], maps[map], opcode);
-    return name;
 }

@@ -24,9 +24,7 @@ struct code {
 struct code code_of(const unsigned char *bytes, size_t left);
 bool is_prefix(int byte);
 bool has_w(const struct code *code);
-bool is_string(const struct code *code);
 int v_bytes(const struct code *code);
 size_t spell(const struct code *code, unsigned char *out, size_t *front);
-const char *row_name(int map, int opcode, enum column column);
 
 #endif

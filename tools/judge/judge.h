@@ -15,7 +15,6 @@ struct operand {
     bool is_signed;
     int bits;                        /* the width of an immediate, or of an absolute address */
     const char *text;
-    const ZydisDecodedOperand *from;  /* what it is in zydis's answer, or NULL */
 };
 
 /* A line of the listing, as it is expected. */
@@ -35,12 +34,7 @@ enum { UNDECIDED = 63 };
 /* reading.c */
 bool decode(const ZydisDecoder *decoder, const unsigned char *bytes, size_t left, struct reading *reading, ZyanStatus *status);
 void read_as_here(struct reading *reading);
-int put_register(char *text, size_t room, ZydisRegister reg);
 int reading_text(size_t place, const struct reading *reading, char *text, size_t room);
-
-/* shown.c */
-int shown_text(unsigned long long address, const struct code *code, const struct reading *reading, char *text);
-void print_shown_reason(void);
 
 /* rules.c */
 void prepare_rules(void);
@@ -48,10 +42,21 @@ void expect(const ZydisDecoder *decoder, const struct code *code, struct reading
 void print_reasons(void);
 void print_names(void);
 
+/* The tables of reasons. A row says at which bytes a reason holds:
+ *
+ *     NP 66 F3 F2     the column; without one of these, all
+ *     0: 0F: 0F38: 0F3A:   the map of the opcode bytes after it
+ *     +66 -66 +67 +W -W +R +any   prefixes that must be there, or not be there (`any`: 66, 67, F0, FS, GS or a REX)
+ *     rm0             ModRM's rm is 0
+ *     8F 50-5F        opcode bytes; `/67` with such a reg field, `r` in the register form, `m` in memory form, `=FE` with that ModRM
+ */
+struct rule {
+    const char *reason, *rows, *words;
+};
+
+extern const struct rule refused[], read_otherwise[], changed[];
+
 /* changes.c */
 void change(const struct code *code, struct reading *reading, const char *words);
-
-/* refusals.c */
-void refuse(const ZydisDecoder *decoder, const struct code *code, const struct code *other, ZyanStatus status, struct reading *reading);
 
 #endif

@@ -1,173 +1,212 @@
-"""Holds the lines of `show` against binutils' objdump 2.40, byte by byte: at each address at which both begin a line, the two must be the same, but
-for the leading blanks of objdump's addresses. What differs is counted by the reasons of `REASONS`, each of which looks at the bytes of the line.
+"""Holds the lines of `show` against those of binutils' objdump 2.40, byte by byte but for the blanks before objdump's addresses.
 
-Every line must have the next address and its own bytes. Where the two differ in length, both are followed to the next address that they have in
-common; anywhere else an address that only one has is unexplained.
+At an address at which both begin a line the two must be the same, or differ by one of `REASONS`, which looks at the bytes. Each line of `show` must have
+the next address and its own bytes, and an address that only one of the two has must be inside of lines that have a reason.
 """
 
 import collections
+import itertools
+import random
 import re
 import subprocess
 import sys
-import tempfile
-from pathlib import Path
 
 BASES = [0, 0x401000, 0xFFFFFFFF81000000]
+OBJDUMP = "objdump -D -w -z -b binary -m i386:x86-64 -M intel".split()
+HEADER = 7  # lines
+LINE = re.compile(rb"([0-9a-f]{1,16}):\t((?:[0-9a-f]{2} ){1,15}) *\t(.+)\n")
+LONE_REX = re.compile(rb"(?:rex(?:\.\w+)?\s*)+")
+PREFIX = re.compile(rb"(?:data16|addr32|lock|repn?z|[c-gs]s|rex)\b")
+REX = re.compile(rb"(?:\w+ )*rex\b")
 LEGACY = bytes.fromhex("66 67 f0 f2 f3 26 2e 36 3e 64 65")
-NEAR = re.compile(rb"(?:[\xe8\xe9\xc2]|\x0f[\x80-\x8f]|\xc7\xf8)", re.S)
-ROWS_OF_OURS = re.compile(rb"(?:[\xd8-\xdf]|[\xc6\xc7]|\x0f(?:[\x01\x09\x0d\x18\x1a\x1b\x20-\x23\xae\xb9\xbc\xbd\xff]|\x3a\xf0))", re.S)
-VECTOR = re.compile(rb"[\x67\x2e\x36\x3e\x26\x64\x65]*[\xc4\xc5\x62\x8f]", re.S)
-LINE = re.compile(r"([0-9a-f]{1,16}):\t((?:[0-9a-f]{2} ){1,15}) *\t(.+)")
+LONGEST, CASE = 15, 24  # bytes
+MODRMS = [mod << 6 | reg << 3 | rm for reg in range(8) for mod, rm in [(0, 0), (0, 4), (0, 5), (1, 1), (2, 4), *((3, rm) for rm in range(8))]]
+SIBS = bytes.fromhex("24 25 65 04 8d e4 20 60 2d")
+
+# Bytes after the prefixes: of VEX, EVEX and XOP; of near branches; of rows that objdump refuses; of rows that `show` refuses; of MPX; of hints.
+VECTOR = re.compile(rb"[\xc4\xc5\x62]|\x8f[^\x00-\x07\x40-\x47\x80-\x87\xc0-\xc7]", re.S)
+NEAR = re.compile(rb"[\xe8\xe9]|\x0f[\x80-\x8f]|\xc7\xf8", re.S)
+THEIR_ROWS = re.compile(rb"[\xd8-\xdf]|[\xc6\xc7][\xc0-\xff]|\x0f(?:[\x01\x09\x0d\x18\x20-\x23\xae\xb9\xbc\xbd\xff]|\x3a\xf0)", re.S)
+OUR_ROWS = re.compile(rb"[\x8c\x8e\xd8-\xdf]|\x0f[\x01\x0d\x18\x1a-\x1f\x20-\x23\x37\x50\x78\xa6\xa7\xae\xb9\xc5\xc7\xd7\xf7\xff]|\x0f\x38\xfc|\x0f\x3a\xf0", re.S)
+HINTS = re.compile(rb"\x0f[\x18\xc7\xd6]", re.S)
+# Prefixes of which objdump loses none where it takes a REX before others as a line.
+IN_ORDER = re.compile(rb"[@-O]*[^@-O]*[@-O]?", re.S)
 
 
-def parted(code):
-    """The prefixes of some bytes, and the bytes after them."""
-    at = 0
-    while at < len(code) and (code[at] in LEGACY or code[at] >> 4 == 4):
-        at += 1
-    return code[:at], code[at:]
+def made(run):
+    """Each opcode byte of each map with each of `MODRMS` after a run of prefixes, a SIB byte and a displacement by chance, and NOPs up to the next one."""
+    chance, run, code = random.Random(run), bytes.fromhex(run.strip("-")), bytearray()
+    for escape, opcode, modrm in itertools.product((b"", b"\x0f", b"\x0f\x38", b"\x0f\x3a"), range(256), MODRMS):
+        sib = chance.choice([*SIBS, chance.randrange(256)])
+        rest = bytes(chance.choice([0, 1, 5, 16, 17, 127, 128, 255, chance.randrange(256)]) for _ in range(8))
+        code += (run + escape + bytes([opcode, modrm, sib]) + rest)[:LONGEST].ljust(CASE, b"\x90")
+    return bytes(code)
 
 
-def has_both(run):
-    return 0x66 in run and (0xF2 in run or 0xF3 in run)
+class Pair:
+    """A line of `show`, and the one of objdump at its address: the bytes and the text of each. `run` are the prefixes of the code there, and `rest`
+    is what follows."""
+
+    def __init__(self, code, ours, theirs):
+        (self.own, self.text), (self.bytes, self.named) = ours, theirs
+        count = next((at for at, byte in enumerate(code) if byte not in LEGACY and byte >> 4 != 4), len(code))
+        self.run, self.rest = code[:count], code[count:]
+        self.is_bad = b"(bad)" in self.named or self.named.startswith(b".byte")
+        self.has_66, self.is_cut = 0x66 in self.run, len(code) < LONGEST and PREFIX.match(self.named)
+        self.is_refused = self.is_cut or self.is_bad or 0xF0 in self.run or VECTOR.match(self.rest) or OUR_ROWS.match(self.rest)
+        self.is_split = any(byte >> 4 == 4 for byte in self.run[:-1]) and REX.match(self.named)
+        self.is_lost = self.text == b"(bad)" or not IN_ORDER.fullmatch(self.run)
+        self.is_spaced = self.own == self.bytes and self.text.split() == self.named.split()
+
+    def is_hint(self):
+        has_both = self.has_66 and not {0xF2, 0xF3}.isdisjoint(self.run)
+        is_odd = has_both and HINTS.match(self.rest) or self.has_66 and self.rest[:2] == b"\x0f\x0f"
+        is_tracked = b"notrack" in self.named and self.named.replace(b"notrack ", b"") == re.sub(rb"[fg]s:|notrack ", b"", self.text)
+        return self.own == self.bytes and (is_odd or is_tracked or self.is_spaced and self.rest[:2] == b"\x0f\x18")
 
 
-# Each reason by its name in docs/USAGE.md: whether it holds of our line's bytes, run and rest, of our text, and of objdump's.
+# The reasons, by their names in docs/USAGE.md, and where each holds.
 REASONS = {
-    "vex": lambda code, run, rest, ours, theirs: ours == "(vex)" and VECTOR.match(code),
-    "refused": lambda code, run, rest, ours, theirs: ours == "(bad)" and len(code) == 1,
-    "apart": lambda code, run, rest, ours, theirs: any(byte >> 4 == 4 for byte in run[:-1]),
-    "near": lambda code, run, rest, ours, theirs: 0x66 in run and NEAR.match(rest),
-    "wait": lambda code, run, rest, ours, theirs: rest[:1] == b"\x9b",
-    "rows": lambda code, run, rest, ours, theirs: "(bad)" in theirs and ROWS_OF_OURS.match(rest),
-    "bounds": lambda code, run, rest, ours, theirs: rest[:2] in (b"\x0f\x1a", b"\x0f\x1b") and theirs.split(" ")[0] != "nop",
-    "hints": lambda code, run, rest, ours, theirs: rest[:2] in (b"\x0f\x18", b"\x0f\x1e", b"\x0f\xc7", b"\x0f\xd6") and has_both(run)
-    or rest[:2] == b"\x0f\x18" and re.sub(" +", " ", theirs) == ours
-    or rest[:2] == b"\x0f\x0f" and 0x66 in run
-    or rest[:1] == b"\xff" and 0x3E in run and "notrack" in theirs,
+    "vex": lambda it: it.text == b"(vex)" and VECTOR.match(it.rest) and (it.is_bad or it.bytes == it.own),
+    "refused": lambda it: it.text == b"(bad)" and len(it.own) == 1 and it.is_refused,
+    "apart": lambda it: it.is_split and (it.is_lost or it.is_spaced),
+    "near": lambda it: it.has_66 and NEAR.match(it.rest) and (len(it.own) == len(it.bytes) + 2 or b"xbeginw" in it.named),
+    "wait": lambda it: it.rest[:1] == b"\x9b" and it.text.endswith(b"fwait") and (it.bytes.startswith(it.own) or REX.match(it.named)),
+    "rows": lambda it: it.is_bad and THEIR_ROWS.match(it.rest),
+    "bounds": lambda it: it.rest[:2] in (b"\x0f\x1a", b"\x0f\x1b") and b"nop" in it.text and (it.is_bad or b"bnd" in it.named),
+    "hints": Pair.is_hint,
 }
 
 
-def reason(code, ours, theirs):
-    """Why a line differs, or None."""
-    run, rest = parted(code)
-    return next((name for name, holds in REASONS.items() if holds(code, run, rest, ours, theirs)), None)
+class Judge:
+    """Holds the lines over some code from a base on."""
+
+    def __init__(self, code, base, theirs):
+        self.code, self.base, self.theirs, self.counts, self.unlike = code, base, theirs, collections.Counter(), []
+        self.last, self.free = b"", 0  # the last line that was the same; the end of the lines that have a reason
+        self.at, self.other = 0, next(theirs, b"")
+
+    def tell(self, what, *lines):
+        self.unlike.append("\n    ".join([what, *(line.decode(errors="replace").rstrip("\n") for line in lines)]))
+
+    def parsed(self, line):
+        """The place, the bytes and the text of a line, or None."""
+        form = LINE.fullmatch(line)
+        return form and ((int(form[1], 16) - self.base) % 2**64, bytes.fromhex(form[2].decode()), form[3])
+
+    def take(self):
+        """The parts of objdump's next line, together with the next ones where it is a REX alone."""
+        line, self.other = self.other, next(self.theirs, b"")
+        place, own, text = self.parsed(line)
+        while LONE_REX.fullmatch(text) and self.other:
+            _, more, following = self.parsed(self.other)
+            own, text, self.other = own + more, text + b" " + following, next(self.theirs, b"")
+        return place, own, text, line
+
+    def is_free(self, place, own):
+        """Whether a line that only one has is inside of lines that have a reason, which then extend as far as it does."""
+        is_inside = place < self.free
+        if is_inside:
+            self.free = max(self.free, place + len(own))
+        return is_inside
+
+    def skip(self, place):
+        """Passes over the lines that objdump alone has before a place."""
+        while self.other and self.parsed(self.other)[0] < place:
+            there, own, _, line = self.take()
+            self.counts["objdump alone"] += 1
+            if not self.is_free(there, own):
+                self.tell("objdump alone", line)
+
+    def end(self):
+        """The place at which the line ends that was the same."""
+        if self.last:
+            place, own, _ = self.parsed(self.last)
+            self.at, self.last = place + len(own), b""
+        return self.at
+
+    def hold(self, line):
+        """Holds a line that isn't objdump's next line."""
+        at, parts = self.end(), self.parsed(line)
+        if not parts or parts[0] != at or parts[1] != self.code[at : at + len(parts[1])]:
+            self.tell(f"not the line at {self.base + at & 2**64 - 1:x}", line)
+        if not parts:
+            return
+        place, own, text = parts
+        self.at = place + len(own)
+        self.skip(place)
+        if not self.other or self.parsed(self.other)[0] != place:
+            self.counts["`show` alone"] += 1
+            if not self.is_free(place, own):
+                self.tell("`show` alone", line)
+            return
+        self.compare(place, line, own, text)
+
+    def compare(self, place, line, own, text):
+        """Compares a line with that of objdump at the same place."""
+        self.counts["at both"] += 1
+        is_same = line == self.other
+        _, their_own, their_text, their_line = self.take()
+        if is_same:
+            return
+        pair = Pair(self.code[place : place + LONGEST], (own, text), (their_own, their_text))
+        why = next((name for name, holds in REASONS.items() if holds(pair)), None)
+        self.counts[why] += 1
+        if why is None:
+            self.tell("another line", line, their_line)
+        else:
+            self.free = max(self.free, place + len(own), place + len(their_own))
+
+    def hold_all(self, ours):
+        for line in ours:
+            self.counts["lines"] += 1
+            if line == self.other:
+                self.counts["at both"] += 1
+                self.last, self.other = line, next(self.theirs, b"")
+            else:
+                self.hold(line)
+        self.skip(2**64)
+        if self.end() != len(self.code):
+            self.tell(f"the listing ends at {self.at:x}")
 
 
-def lines_of(stream):
-    for line in stream:
-        form = LINE.fullmatch(line.rstrip("\n").lstrip(" "))
-        if form:
-            yield int(form[1], 16), bytes.fromhex(form[2]), form[3], form[0]
+def held(ours, code, base, work):
+    """The judge of the lines of `show` over some code, once it has them all."""
+    (work / "raw").write_bytes(code)
+    with subprocess.Popen([*OBJDUMP, f"--adjust-vma={base:#x}", work / "raw"], stdout=subprocess.PIPE) as dump:
+        judge = Judge(code, base, (line.lstrip(b" ") for line in itertools.islice(dump.stdout, HEADER, None)))
+        judge.hold_all(ours)
+    return judge
 
 
-def hold(show, code, base, tell):
-    """Compares the two listings of some bytes, of `show` by a command. Answers the counts: of lines, of lines at both addresses, and of each reason."""
-    counts = collections.Counter()
-    with tempfile.TemporaryDirectory() as work:
-        raw = Path(work) / "raw"
-        raw.write_bytes(code)
-        ours = subprocess.Popen(f"xxd -p {raw} | {show.format(base)}", shell=True, stdout=subprocess.PIPE, text=True)
-        words = f"objdump -D -w -z -b binary -m i386:x86-64 -M intel --adjust-vma=0x{base:x} {raw} | tail -n +8"
-        theirs = subprocess.Popen(words, shell=True, stdout=subprocess.PIPE, text=True)
-        left, free, next_at = lines_of(theirs.stdout), False, 0
-        other = next(left, None)
-        for address, own, text, line in lines_of(ours.stdout):
-            place = (address - base) % 2**64
-            if place != next_at or own != code[place : place + len(own)] or line != line.lstrip():
-                tell(f"not the next line: {line}")
-            next_at = place + len(own)
-            counts["lines"] += 1
-            while other and (other[0] - base) % 2**64 < place:
-                if not free:
-                    tell(f"no line here: {other[3]}")
-                other = next(left, None)
-            if not other or (other[0] - base) % 2**64 > place:
-                if not free:
-                    tell(f"no line of objdump: {line}")
-                continue
-            counts["common"] += 1
-            if line != other[3]:
-                why = reason(own, text, other[2])
-                counts[why] += 1
-                if why is None:
-                    tell(f"{line}\n    objdump: {other[3]}")
-            free = own != other[1]
-            other = next(left, None)
-        if next_at != len(code):
-            tell(f"the listing ends at {next_at:x}")
-    return counts
+def listed(words, code, work):
+    """A program that lists some code."""
+    (work / "text").write_text(code.hex())
+    with open(work / "text", "rb") as text:
+        return subprocess.Popen(words, stdin=text, stdout=subprocess.PIPE)
 
 
-# Kinds of differences, each with the pattern and the text that takes its place, in one of the lines with that pattern.
-PLANTED = {
-    "another register": (r"(?<=\tmov    )rax(?=,)", "rcx"),
-    "a register of another width": (r"(?<=[ ,])eax$", "rax"),
-    "another size of memory": ("DWORD PTR", "QWORD PTR"),
-    "a size left out": ("QWORD PTR ", ""),
-    "another constant": (r"(?<=,0x)(\w)", lambda it: f"{int(it[1], 16) ^ 1:x}"),
-    "a constant that isn't extended": ("0xffffffffffffff", "0xff"),
-    "another sign of a displacement": (r"-(?=0x\w+\])", "+"),
-    "a displacement of 0 left out": (r"\+0x0(?=\])", ""),
-    "an index left out": (r"\+r\w+\*1(?=[+\]-])", ""),
-    "a segment left out": (r"fs:", ""),
-    "a word left out": (r"lock ", ""),
-    "a word more": (r"\t(?=add )", "\trepz "),
-    "another name": (r"\tjne ", "\tje  "),
-    "a target that is wrong past 2^32": (r"(?<=\tcall   0x)(\w)(?=\w{8})", lambda it: f"{int(it[1], 16) ^ 1:x}"),
-    "a remark that is wrong past 2^32": (r"(?<=# 0x)(\w)(?=\w{8})", lambda it: f"{int(it[1], 16) ^ 1:x}"),
-    "an address that is off by one": (r"^(\w+)(?=:)", lambda it: f"{int(it[1], 16) + 1:x}"),
-    "another byte": (r"(?<=:\t)(\w\w) ", lambda it: f"{int(it[1], 16) ^ 1:02x} "),
-    "a byte left out": (r"(?<=:\t)(\w\w) \w\w ", r"\1 "),
-    "a column that is narrower": (r" \t(?=mov)", "\t"),
-    "a blank left out": (r"(?<=\tmov ) ", ""),
-    "an encoding that is (bad)": (r"\tmov .*", "\t(bad)"),
-}
-
-
-def plant(kind, lines):
-    """Changes the line in the middle of those with the pattern."""
-    pattern, text = PLANTED[kind]
-    chosen = [at for at, line in enumerate(lines) if re.search(pattern, line)]
-    if chosen:
-        at = chosen[len(chosen) // 2]
-        lines[at] = re.sub(pattern, text, lines[at], count=1)
-    return lines
-
-
-def self_test(show, code):
-    """Plants each kind into one line. Answers how many weren't seen."""
-    base, unseen = 0xFFFFFFFF81000000, 0
-    for kind in [None, *PLANTED]:
-        told = []
-        change = f" | {sys.executable} {Path(__file__)} '{kind}'".replace("isn't", "isn'\\''t") if kind else ""
-        hold(f"{show} {{:x}}{change}", code, base, told.append)
-        if bool(told) != bool(kind):
-            print(f"compare: {'not seen' if kind else 'not as objdump'}: {kind or told[0]}", file=sys.stderr)
-            unseen += 1
-    print(f"compare: {len(PLANTED) + 1 - unseen} of {len(PLANTED) + 1} listings of `show`, {len(PLANTED)} with a difference in one line, are seen as they are")
-    return unseen
-
-
-def main(show, pieces):
+def is_of_version():
     version = subprocess.run(["objdump", "--version"], stdout=subprocess.PIPE, text=True).stdout.split("\n")[0]
     if not version.endswith(" 2.40"):
         print(f"compare: skipped, {version} isn't 2.40", file=sys.stderr)
-        return 0
-    names = ["lines", "common", *REASONS, None]
-    print("| code of | base | lines | at both addresses | " + " | ".join(REASONS) + " | unexplained |\n|---|---|" + "---|" * len(names))
-    total = 0
+    return version.endswith(" 2.40")
+
+
+def main(show, pieces, work):
+    """Compares the listings of pieces of code, each with its name, at four bases. Returns the status."""
+    heads = ["lines", "at both", "`show` alone", "objdump alone", *REASONS]
+    print("| code of | base | " + " | ".join(heads) + " | unexplained |\n|---|---|---|" + "---|" * len(heads))
+    count = 0
     for name, code in pieces:
         for base in [*BASES, 2**64 - len(code)]:
-            unexplained = []
-            counts = hold(f"{show} {{:x}}", code, base, unexplained.append)
-            for line in unexplained[:20]:
-                print(f"unexplained: {name}: {line}", file=sys.stderr)
-            cells = [f"{counts[it]:,}" for it in names[:-1]] + [f"{len(unexplained):,}"]
-            print(f"| {name} | {base:x} | " + " | ".join(cells) + " |", flush=True)
-            total += len(unexplained)
-    return 1 if total else 0
-
-
-if __name__ == "__main__":
-    print("\n".join(plant(sys.argv[1], sys.stdin.read().split("\n")[:-1])))
+            with listed([show, f"{base:x}"], code, work) as ours:
+                judge = held(ours.stdout, code, base, work)
+            if ours.returncode != 0:
+                judge.tell(f"the program ended with status {ours.returncode}")
+            cells = [name, f"{base:x}", *(f"{judge.counts[it]:,}" for it in heads), f"{len(judge.unlike):,}"]
+            print("| " + " | ".join(cells) + " |", flush=True)
+            for what in judge.unlike[:20]:
+                print(f"unexplained: {name}: {what}", file=sys.stderr)
+            count += len(judge.unlike)
+    return 1 if count else 0

@@ -1,9 +1,9 @@
-/* judge RAW [BASE] < LINES: holds the lines of the program's `sweep` over the bytes of the file RAW against what zydis answers in the mode of 64 bits
+/* judge RAW < LINES: holds the lines of the program's `sweep` over the bytes of the file RAW against what zydis answers in the mode of 64 bits
  * with default settings. At each place the line is worked out from zydis's answer and the reasons of reasons.c, and must be the program's
- * line, byte for byte. With BASE, a hexadecimal number, the lines are those of `show BASE`. It prints:
+ * line, byte for byte. It prints:
  *
  *     unexplained PLACE BYTES | LINE | EXPECTED      for the first twenty lines that differ
- *     reason COUNT ROW REASON                        for each reason at each row
+ *     reason COUNT REASON                            for each rule that changed something
  *     counts LINES ACCEPTED REFUSED UNEXPLAINED
  *
  * each with tabs between. `judge reasons` prints the names of all reasons.
@@ -35,19 +35,16 @@ static void report(const unsigned char *bytes, size_t count, size_t at, const ch
     printf("unexplained\t%zu ", at);
     for (size_t k = at; k < count && k < at + LONGEST; k++) printf("%02x", bytes[k]);
     printf(" | ");
-    for (ssize_t k = 0; k < length; k++)
-        if (line[k] >= ' ' && line[k] <= '~') putchar(line[k]);
-        else printf(line[k] == '\n' ? "\\n" : "\\x%02x", (unsigned char)line[k]);
+    for (ssize_t k = 0; k < length; k++) putchar(line[k] >= ' ' && line[k] <= '~' ? line[k] : '?');
     printf(" | %.*s\n", (int)strcspn(expected, "\n"), expected);
 }
 
 /* Holds the lines of standard input against what is expected over some bytes. A line of a later place means that one is missing, and one of an
  * earlier place is one too many. */
-static void judge(const unsigned char *bytes, size_t count, const char *base)
+static void judge(const unsigned char *bytes, size_t count)
 {
     static struct reading reading;
     size_t at = 0, lines = 0, refusals = 0, room = 0;
-    unsigned long long first = base ? strtoull(base, NULL, 16) : 0;
     char *line = NULL, text[512];
     ssize_t length = getline(&line, &room, stdin);
     ZydisDecoder decoder;
@@ -60,9 +57,9 @@ static void judge(const unsigned char *bytes, size_t count, const char *base)
         expect(&decoder, &code, &reading);
         do {
             reading.refusal = reading.refusals[error];
-            size = base ? shown_text(first + at, &code, &reading, text) : reading_text(at, &reading, text, sizeof text);
+            size = reading_text(at, &reading, text, sizeof text);
         } while ((length != size || memcmp(line, text, (size_t)size) != 0) && reading.refusal && reading.refusals[++error]);
-        size_t place = length > 0 ? strtoull(line, NULL, base ? 16 : 10) - first : count, next = at + (reading.refusal ? 1 : reading.length);
+        size_t place = length > 0 ? strtoull(line, NULL, 10) : count, next = at + (reading.refusal ? 1 : reading.length);
         lines++;
         refusals += reading.refusal != NULL;
         if (length != size || memcmp(line, text, (size_t)size) != 0) report(bytes, count, at, line, length, text);
@@ -71,7 +68,6 @@ static void judge(const unsigned char *bytes, size_t count, const char *base)
     }
     for (; length > 0; length = getline(&line, &room, stdin)) report(bytes, count, count, line, length, "");
     print_reasons();
-    if (base) print_shown_reason();
     printf("counts\t%zu\t%zu\t%zu\t%zu\n", lines, lines - refusals, refusals, unexplained);
     free(line);
 }
@@ -79,14 +75,14 @@ static void judge(const unsigned char *bytes, size_t count, const char *base)
 int main(int argc, char **argv)
 {
     size_t count;
+    prepare_rules();
     if (argc == 2 && strcmp(argv[1], "reasons") == 0) print_names();
-    else if (argc == 2 || argc == 3) {
-        prepare_rules();
+    else if (argc == 2) {
         unsigned char *bytes = contents(argv[1], &count);
-        judge(bytes, count, argv[2]);
+        judge(bytes, count);
         free(bytes);
     } else {
-        fprintf(stderr, "usage: judge RAW [BASE] < LINES | judge reasons\n");
+        fprintf(stderr, "usage: judge RAW < LINES | judge reasons\n");
         return 2;
     }
     return 0;

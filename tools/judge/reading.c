@@ -12,7 +12,7 @@ bool decode(const ZydisDecoder *decoder, const unsigned char *bytes, size_t left
 
 static struct operand operand_of(const ZydisDecodedInstruction *read, const ZydisDecodedOperand *operand)
 {
-    struct operand shown = {.kind = REGISTER, .from = operand};
+    struct operand shown = {.kind = REGISTER};
     if (operand->type == ZYDIS_OPERAND_TYPE_REGISTER) shown.reg = operand->reg.value;
     else if (operand->type == ZYDIS_OPERAND_TYPE_MEMORY) {
         shown.kind = MEMORY;
@@ -55,7 +55,7 @@ void read_as_here(struct reading *reading)
     reading->size = size_of(reading);
 }
 
-int put_register(char *text, size_t room, ZydisRegister reg)
+static int put_register(char *text, size_t room, ZydisRegister reg)
 {
     const char *name = ZydisRegisterGetString(reg);
     return name[0] == 's' && name[1] == 't' ? snprintf(text, room, "st(%s)", name + 2) : snprintf(text, room, "%s", name);

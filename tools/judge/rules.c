@@ -1,5 +1,4 @@
 /* Applies the reasons, and counts them. */
-#include "rules.h"
 #include "judge.h"
 #include <stdio.h>
 #include <stdlib.h>
@@ -25,7 +24,7 @@ struct table {
 
 static struct table tables[3];
 static const struct rule *rules[MOST];
-static size_t counts[MOST][MAPS][256][COLUMNS];
+static size_t counts[MOST];
 static int numbered;
 
 static void add(struct table *table, int map, int opcode, struct where where)
@@ -118,11 +117,6 @@ static const struct where *first(int number, const struct code *code)
     return NULL;
 }
 
-static void count(const struct where *where, const struct code *code)
-{
-    counts[where->number][code->map][code->opcode][code->map == 0 ? 0 : code->column]++;
-}
-
 /* The code as which a row is read. */
 static struct code other_code(const struct code *code, const char *words)
 {
@@ -171,7 +165,7 @@ static void apply_changes(const struct code *code, struct reading *reading)
         if (!holds(where, code)) continue;
         memcpy(&before, reading, offsetof(struct reading, read));
         change(code, reading, where->rule->words);
-        if (!is_same(&before, reading)) count(where, code);
+        if (!is_same(&before, reading)) counts[where->number]++;
     }
 }
 
@@ -187,6 +181,51 @@ static ZyanStatus status_without_lock(const ZydisDecoder *decoder, const struct 
     return reading->read.length - front + code->front > LONGEST ? ZYDIS_STATUS_INSTRUCTION_TOO_LONG : ZYDIS_STATUS_ILLEGAL_LOCK;
 }
 
+/* Whether bytes that are cut off are the beginning of an instruction, by trying what could follow. */
+static bool is_open(const ZydisDecoder *decoder, const struct code *code, size_t count)
+{
+    struct code front = *code;
+    unsigned char bytes[64];
+    struct reading reading;
+    ZyanStatus status;
+    size_t ignored;
+    front.left = count;
+    front.lock = false;
+    if (count == code->front) front.modrm = -1;
+    for (int fill = 0; fill < 256; fill++) {
+        size_t left = spell(&front, bytes, &ignored);
+        memset(bytes + left, fill, 16);
+        if (decode(decoder, bytes, left + 16, &reading, &status) && reading.read.length > left) return true;
+    }
+    return false;
+}
+
+static void allow(struct reading *reading, const char *error)
+{
+    int at = 0;
+    while (reading->refusals[at]) at++;
+    reading->refusals[at] = error;
+}
+
+/* The errors that may be at bytes that zydis refuses: it says neither whether the opcode or an operand is at fault, nor how many bytes are read before
+ * that is known; the processor says how many at the limit of 15 bytes (tools/processor). `other` is the code as which zydis was asked to read it, or
+ * NULL where the row is refused here whatever zydis answers. */
+static void refuse(const ZydisDecoder *decoder, const struct code *code, const struct code *other, ZyanStatus status, struct reading *reading)
+{
+    size_t count = code->left < LONGEST ? code->left : LONGEST;
+    const char *open = count == LONGEST ? "too long" : "exhausted input";
+    bool is_cut = status == ZYDIS_STATUS_NO_MORE_DATA || status == ZYDIS_STATUS_INSTRUCTION_TOO_LONG;
+    bool is_vex = code->map == 0 && (code->opcode == 0xc4 || code->opcode == 0xc5 || code->opcode == 0x62);
+    bool is_3dnow = code->map == 1 && code->opcode == 0x0f, is_xop = code->map == 0 && code->opcode == 0x8f && (code->modrm >> 3 & 7) != 0;
+    if (code->opcode < 0 || code->front > LONGEST) { allow(reading, open); return; }
+    if (is_vex) { allow(reading, code->p66 || code->lock || code->rex ? "invalid prefixes" : "the decoder is incomplete"); return; }
+    if (other && (is_cut || is_3dnow || count == code->front) && is_open(decoder, other, count)) { allow(reading, open); return; }
+    if (count < code->front + MOST_AFTER_OPCODE) allow(reading, open);
+    if (status == ZYDIS_STATUS_ILLEGAL_LOCK) allow(reading, "invalid prefixes");
+    else if (is_xop) allow(reading, "the decoder is incomplete");
+    else { allow(reading, "invalid opcode"); allow(reading, "invalid operand"); }
+}
+
 /* The line that is expected at some bytes. */
 void expect(const ZydisDecoder *decoder, const struct code *code, struct reading *reading)
 {
@@ -195,7 +234,7 @@ void expect(const ZydisDecoder *decoder, const struct code *code, struct reading
     bool is_read = decode(decoder, code->bytes, code->left, reading, &status);
     const struct where *where = first(0, code);
     if (where) {
-        if (is_read) count(where, code);
+        if (is_read) counts[where->number]++;
         refuse(decoder, code, NULL, ZYDIS_STATUS_DECODING_ERROR, reading);
         return;
     }
@@ -206,7 +245,7 @@ void expect(const ZydisDecoder *decoder, const struct code *code, struct reading
         ZydisMnemonic was = reading->read.mnemonic;
         other = other_code(code, where->rule->words);
         is_read = read_other(decoder, code, &other, reading, &status);
-        if (is_read && (!was_read || was != reading->read.mnemonic)) count(where, code);
+        if (is_read && (!was_read || was != reading->read.mnemonic)) counts[where->number]++;
     }
     if (is_read) { apply_changes(code, reading); return; }
     if (status == ZYDIS_STATUS_ILLEGAL_LOCK) status = status_without_lock(decoder, &other, reading);
@@ -223,20 +262,14 @@ void prepare_rules(void)
         }
 }
 
-/* A line for each reason at each row: `reason COUNT ROW REASON`, with a tab between. */
+/* A line for each rule that changed something: `reason COUNT REASON`, with a tab between. */
 void print_reasons(void)
 {
     for (int k = 0; k < numbered; k++)
-        for (int map = 0; map < MAPS; map++)
-            for (int opcode = 0; opcode < 256; opcode++)
-                for (int column = 0; column < COLUMNS; column++)
-                    if (counts[k][map][opcode][column] > 0)
-                        printf("reason\t%zu\t%s\t%s\n", counts[k][map][opcode][column], row_name(map, opcode, (enum column)column), rules[k]->reason);
+        if (counts[k] > 0) printf("reason\t%zu\t%s\n", counts[k], rules[k]->reason);
 }
 
 void print_names(void)
 {
-    const struct rule *const lists[] = {refused, read_otherwise, changed};
-    for (int k = 0; k < 3; k++)
-        for (const struct rule *rule = lists[k]; rule->reason != NULL; rule++) puts(rule->reason);
+    for (int k = 0; k < numbered; k++) puts(rules[k]->reason);
 }

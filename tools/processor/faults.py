@@ -14,7 +14,6 @@ CHECKS = set("length refusal address implied direction target meaning registers 
 FAULTS = [
     ("rows", "a length too long", r"^2 (ADD \[)", r"3 \1"),
     ("rows", "a length too short", r"^6 (SUB \[)", r"5 \1"),
-    ("rows", "a length after a REX", r"^5 (MOV eax, i32)", r"6 \1"),
     ("prefixes", "a length at the limit", r"^15 ", "14 "),
     ("rows", "a refusal accepted", r"^error: invalid opcode", "1 NOP m0"),
     ("prefixes", "too long accepted", r"^error: too long", "15 NOP m0"),
@@ -31,17 +30,13 @@ FAULTS = [
     ("rows", "a register in place of memory", r"ADD \[(r..)\],", r"ADD \1,"),
     ("rows", "a target's sign", r"JMP i8:(\d+)", r"JMP i8:-\1"),
     ("rows", "PUSH as POP", r" PUSH r", " POP r"),
-    ("rows", "LEAVE as RETURN", " LEAVE ", " RETURN "),
-    ("rows", "XLAT as LAHF", " XLAT ", " LAHF "),
     ("addresses", "a scale", r"\*4", "*2"),
     ("addresses", "an index", r"r12\*", "rsp*"),
     ("addresses", "base and index exchanged", r"\[rcx\+rdx\*2", "[rdx+rcx*2"),
     ("addresses", "an address of 32 bits as one of 64", r"\[r(\d+)d\]", r"[r\1]"),
     ("addresses", "the sign of an absolute address", r"\[abs32:24(\d+)\]", r"[abs32:14\1]"),
     ("addresses", "eip as rip", r"\[eip", "[rip"),
-    ("addresses", "a base without REX.B", r"\[r9\]", "[rcx]"),
     ("sizes", "a size: ADD", r"(ADD \[rbx\], \w+) m4", r"\1 m8"),
-    ("sizes", "a size: MOVZX", r"(MOVZX .*) m1", r"\1 m2"),
     ("sizes", "a size: x87", r"(FLD st\(0\), \[rbx\]) m10", r"\1 m8"),
     ("sizes", "a size of the stack", r"(PUSH rax) m8", r"\1 m4"),
     ("sizes", "a size: MOVSXD with W", r"^3 (MOVSXD .*) m4", r"3 \1 m8"),
@@ -50,14 +45,12 @@ FAULTS = [
     ("registers", "a condition", " JB ", " JNA "),
     ("registers", "ADD as SUB", " ADD ", " SUB "),
     ("registers", "MOVZX as MOVSX", " MOVZX ", " MOVSX "),
-    ("registers", "CBW as CWDE", " CBW ", " CWDE "),
     ("registers", "operands exchanged: MOV", r" MOV (e\w\w), (e\w\w) ", r" MOV \2, \1 "),
     ("registers", "operands exchanged: PXOR", r" PXOR (mm\d), (mm\d) ", r" PXOR \2, \1 "),
     ("registers", "ah as spl", " ah, ", " spl, "),
     ("registers", "a width", r" IMUL e(\w\w), e(\w\w) ", r" IMUL r\1, r\2 "),
     ("registers", "a width: MOVMSKPS", r" MOVMSKPS eax", " MOVMSKPS ax"),
     ("registers", "a source: MOVSXD with W", r"^3 MOVSXD (r\w\w), eax", r"3 MOVSXD \1, ecx"),
-    ("registers", "a width: BTS of a register", r" BTS e(\w\w), e(\w\w) ", r" BTS r\1, r\2 "),
     ("registers", "an immediate's sign", r" ADD (\w+), i8:-11 ", r" ADD \1, u8:245 "),
     ("registers", "a destination: PADDB", " PADDB mm1, ", " PADDB mm2, "),
     ("registers", "a source: PADDB", r" PADDB mm1, mm3", " PADDB mm1, mm4"),
@@ -65,14 +58,15 @@ FAULTS = [
     ("registers", "a source: PINSRW", r"(PINSRW x?mm\d, )e[ad]x", r"\1xmm0"),
     ("registers", "the source of MOVSX", " MOVSX eax, cl ", " MOVSX eax, ch "),
     ("registers", "the count of a shift", r" SAR (\w+), cl ", r" SAR \1, i8:1 "),
-    ("registers", "FNSTSW", " FNSTSW ax", " FNSTSW cx"),
     ("registers", "x87: FADD as FSUB", " FADD ", " FSUB "),
     ("registers", "x87: a register", r" (FMUL st\(0\)), st\(1\)", r" \1, st(2)"),
     ("registers", "x87: FCOMP as FCOM", " FCOMP ", " FCOM "),
     ("segments", "fs as gs", "fs:", "gs:"),
     ("segments", "a segment left out", r"gs:\[rbp", "[rbp"),
     ("segments", "a segment that isn't added", r"es:\[rdi", "fs:[rdi"),
-    ("segments", "a segment that isn't there", "PUSH rax", "PUSH fs:[rax]"),
+    ("segments", "a segment of XLAT", r"(xlat .*)gs:", r"\1ds:"),
+    ("segments", "a segment of MASKMOVQ", "gs maskmovq", "maskmovq"),
+    ("segments", "a segment that isn't there", "push +rax$", "push fs:[rax]"),
     ("spellings", "a part of another length", r"^(\d+ \S+ \S+ \S+ \S+ \S+) (\w+)(\w\w) -", r"\1 \2 \3"),
     ("spellings", "displacement and SIB exchanged", r"^(\d+ \S+ \S+ \S+ \S+) (\w\w) (\w\w) ", r"\1 \2\3 - "),
     ("spellings", "a least length", r"(\t\d+ \d+ )(\d+)\t", lambda m: f"{m[1]}{int(m[2]) - 1}\t"),
@@ -85,11 +79,11 @@ class Lines:
     """The first cases of a kind, each with what is after the place in its line."""
 
     def __init__(self, bench, kind):
-        self.bench, self.kind, self.base = bench, kind, 16 if kind == "segments" else 10
+        self.bench, self.kind, self.base, self.end = bench, kind, *((16, ":\t") if kind == "segments" else (10, " "))
         code, at, self.cases = bench.cases(kind, 0)[: CASES[kind] * processor.STRIDE], 0, []
         with bench.lines(kind, code) as text:
             for line in text:
-                place, rest = line.decode().rstrip("\n").split(" ", 1)
+                place, rest = line.decode().rstrip("\n").split(self.end, 1)
                 if int(place, self.base) == at:
                     count = int(rest.split(" ", 1)[0]) if kind == "spellings" else processor.STRIDE
                     self.cases.append((code[at : at + count], rest))
@@ -99,7 +93,7 @@ class Lines:
         """The words of what differs without a reason, of some cases."""
         at, lines, counts = 0, [], processor.Counts()
         for code, rest in cases:
-            lines.append(f"{at:{'x' if self.base == 16 else 'd'}} {rest}\n")
+            lines.append(f"{at:{'x' if self.base == 16 else 'd'}}{self.end}{rest}\n")
             at += len(code)
         (self.bench.work / "planted").write_text("".join(lines))
         self.bench.count(counts, self.kind, b"".join(code for code, _ in cases), open(self.bench.work / "planted", "rb"))

@@ -47,7 +47,6 @@ REASONS = {
     "66 0F 6E": r"size DIFFERS: MOVD m2, the processor 4 \| .*0f 6e",
     "NOPs with memory": r"size DIFFERS: NOP m\d, the processor 0 \| .*0f 1[9a-f]",
     "a cache line": r"size DIFFERS: (CLFLUSH|CLFLUSHOPT|CLWB) m64, the processor 1",
-    "XLAT, MASKMOVQ and MASKMOVDQU": r"segment DIFFERS: none, the processor has .., no operand \| (f. )?(d7|0f f7)",
 }
 
 
@@ -62,7 +61,7 @@ def worked():
     """The worked lines of x86_vectors, as cases and lines."""
     cases, lines = bytearray(), []
     for path in sorted((TOP / "crates" / "x86_vectors" / "src").glob("*_table.rt")):
-        for code, words in re.findall(r'^(?:.*")?((?:[0-9a-f]{2} ?)+) => (\d+ .*?)(?:";)?$', path.read_text(), re.M):
+        for code, words in re.findall(r'^(?:.*")?((?:[0-9a-f]{2} ?)+) => (\d+ [^|\n]*?)(?:";)?$', path.read_text(), re.M):
             code, (first, rest) = bytes.fromhex(code), words.split(" ", 1)
             rest = rest if rest[0].isdigit() else f"error: {rest}" + f" after {len(code)}" * rest.startswith("exhausted")
             lines.append(f"{len(cases)} {rest}\n")

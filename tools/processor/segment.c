@@ -2,10 +2,12 @@
 #include "processor.h"
 #include <string.h>
 
-/* The segment that a line says of its memory: nothing else of the text is read. */
+/* The segment that a line says of its memory: nothing else of the text is read. MASKMOVQ and MASKMOVDQU name no memory, so there it is the last word. */
 static const char *said_segment(const char *text)
 {
-    return strstr(text, "fs:") ? "fs" : strstr(text, "gs:") ? "gs" : "none";
+    bool is_word = strstr(text, "maskmov") != NULL;
+    const char *fs = strstr(text, is_word ? "fs " : "fs:"), *gs = strstr(text, is_word ? "gs " : "gs:");
+    return !fs && !gs ? "none" : !gs || (fs && fs > gs) ? "fs" : "gs";
 }
 
 /* Rows of which another access faults first, at the stack or at rdi, and those that the kernel may answer in place of the processor (UMIP). */
