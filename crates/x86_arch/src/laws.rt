@@ -23,8 +23,8 @@ pub fn next_is_that_of_a_slice<T: Reader<u64, u8>>(
     (over_reader, over_slice, slice.total_offset())
 }
 
-/// Over any reader `next_n` returns what it returns over a slice with the same bytes left: the same answer, the same
-/// bytes, and the same count taken.
+/// Over any reader `next_n` returns what it returns over a slice with the same bytes left: the same answer, on Ok the
+/// same bytes, and the same count taken.
 pub fn next_n_is_that_of_a_slice<T: Reader<u64, u8>>(
     reader: &mut T,
     bytes: &[u8],

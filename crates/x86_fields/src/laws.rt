@@ -1,6 +1,6 @@
 //! What prefixes, address forms and equality say, over the definitions alone.
 
-ghost use Rattle.std.specs.Prelude.{◌≡◌, ◌↔◌, ◌≤◌, ◌++◌, ◌||◌, ℕ, List, [], ◌∷◌, length, IsTrue, false, FitsSigned, Ok, Err, Some};
+ghost use Rattle.std.specs.Prelude.{◌≡◌, ◌↔◌, ◌≤◌, ◌++◌, ◌||◌, ℕ, List, [], ◌∷◌, length, map, replicate, IsTrue, true, false, FitsSigned, Ok, Err, Some, None};
 ghost use Rattle.std.specs.Int.{w32};
 ghost use Rattle.std.specs.List.{fold};
 ghost use Rattle.x86_arch.specs.Reader.{State, advanced};
@@ -10,6 +10,8 @@ ghost use Rattle.x86_fields.specs.Linear.{Linear, raw_form, IsSameAddress, IsRed
 ghost use Rattle.x86_fields.specs.Pieces.{SpellsRaw, IsReadRaw, sib_taken};
 ghost use Rattle.x86_fields.specs.Raw.{read_raw};
 ghost use Rattle.x86_fields.specs.Steps.{outcome};
+ghost use Rattle.x86_fields.specs.Address.{next_pointer};
+ghost use Rattle.x86_fields.specs.Tables.{at_each_reg, at_each_sib, base_at_sib, base_named, base_there, by_base, by_index, index_at_sib, index_named, scale_at_sib, width_at_sib, width_there, with_sib, without_sib};
 ghost use Rattle.x86_fields.specs.Run.{repnz, rep, rep_any, reading_of, after_of};
 
 use crate::{DecodeError, PrefixRex, Prefixes, Raw};
@@ -76,6 +78,40 @@ pub fn raw_fields_are_read()
 pub fn raw_forms_are_reduced()
     ensures { (raw : Raw) → scale_by raw.sib ≤ 8 → FitsSigned w32 raw.disp →
         IsReduced (raw_form raw) }
+{}
+
+/// The bytes of a displacement, base, index and scale are those of tables 2-2 and 2-3 of Intel SDM volume 2, at every ModRM
+/// byte of the memory forms and every SIB byte, under each bit of a REX and under 67.
+pub fn memory_forms_are_those_of_the_tables()
+    ensures widths_0 { without_sib 0 width_there
+        ≡ at_each_reg (0 ∷ 0 ∷ 0 ∷ 0 ∷ 4 ∷ 0 ∷ 0 ∷ []) }
+    ensures widths_1 { without_sib 1 width_there ≡ at_each_reg (replicate 7 1) }
+    ensures widths_2 { without_sib 2 width_there ≡ at_each_reg (replicate 7 4) }
+    ensures sib_widths_0 { with_sib 0 width_at_sib
+        ≡ at_each_reg (by_base (0 ∷ 0 ∷ 0 ∷ 0 ∷ 0 ∷ 4 ∷ 0 ∷ 0 ∷ [])) }
+    ensures sib_widths_1 { with_sib 1 width_at_sib ≡ at_each_reg (by_base (replicate 8 1)) }
+    ensures sib_widths_2 { with_sib 2 width_at_sib ≡ at_each_reg (by_base (replicate 8 4)) }
+    ensures bases_0 { (raw : Raw) → without_sib 0 (base_there raw)
+        ≡ at_each_reg (map (base_named raw) (0 ∷ 1 ∷ 2 ∷ 3 ∷ []) ++ Some (next_pointer raw)
+        ∷ map (base_named raw) (6 ∷ 7 ∷ [])) }
+    ensures bases_1 { (raw : Raw) → without_sib 1 (base_there raw)
+        ≡ at_each_reg (map (base_named raw) (0 ∷ 1 ∷ 2 ∷ 3 ∷ 5 ∷ 6 ∷ 7 ∷ [])) }
+    ensures bases_2 { (raw : Raw) → without_sib 2 (base_there raw)
+        ≡ without_sib 1 (base_there raw) }
+    ensures sib_bases_0 { (raw : Raw) → with_sib 0 (base_at_sib raw)
+        ≡ at_each_reg (by_base (map (base_named raw) (0 ∷ 1 ∷ 2 ∷ 3 ∷ 4 ∷ []) ++ None
+        ∷ map (base_named raw) (6 ∷ 7 ∷ []))) }
+    ensures sib_bases_1 { (raw : Raw) → with_sib 1 (base_at_sib raw)
+        ≡ at_each_reg (by_base (map (base_named raw) (0 ∷ 1 ∷ 2 ∷ 3 ∷ 4 ∷ 5 ∷ 6 ∷ 7 ∷ []))) }
+    ensures sib_bases_2 { (raw : Raw) → with_sib 2 (base_at_sib raw)
+        ≡ with_sib 1 (base_at_sib raw) }
+    ensures indexes { (raw : Raw) → at_each_sib (index_at_sib raw false)
+        ≡ by_index (map (index_named raw false) (0 ∷ 1 ∷ 2 ∷ 3 ∷ []) ++ None
+        ∷ map (index_named raw false) (5 ∷ 6 ∷ 7 ∷ [])) }
+    ensures indexes_of_x { (raw : Raw) → at_each_sib (index_at_sib raw true)
+        ≡ by_index (map (index_named raw true) (0 ∷ 1 ∷ 2 ∷ 3 ∷ 4 ∷ 5 ∷ 6 ∷ 7 ∷ [])) }
+    ensures scales { at_each_sib scale_at_sib
+        ≡ map (λ scale. replicate 8 (replicate 8 scale)) (1 ∷ 2 ∷ 4 ∷ 8 ∷ []) }
 {}
 
 /// Errors, prefixes and raw fields are equal exactly where all their fields, and the results of their calls, are

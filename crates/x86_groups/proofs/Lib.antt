@@ -3,3 +3,4 @@ pub mod ChoiceLemmas
 pub mod GroupLemmas
 pub mod HeadLemmas
 pub mod CellLemmas
+pub mod KnownLemmas

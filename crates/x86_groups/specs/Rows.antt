@@ -1,9 +1,11 @@
--- The groups: a row a line, as Intel SDM volume 2, appendix A.4 prints them, or the source that is named. The first row
--- that is there counts. The columns: where (mem the memory forms of ModRM, reg the register forms, both; at a reg, or at
--- a reg and an rm), the prefixes, the name or the names of eight regs or rms (`none` where the row isn't), the operands,
--- and the memory size (of the memory form, and of the register form). A row that is refused has the error and the moment
--- after which it comes. Of x86_operands, specs/Words.antt has the words, specs/Columns.antt what they mean, and
--- specs/PlanSteps.antt what the letters mean.
+-- The groups: a row a line, from Intel SDM volume 2, appendix A.4, or the source that is named. Also rows that this
+-- table leaves empty: SAL at /6 and TEST at /1, which processors read, and XABORT and XBEGIN at any reg of C6 F8 and
+-- C7 F8, as `yaxpeax-x86` reads them (docs/DIFFERENCES.md). The first row that is there counts. The columns: where
+-- (mem the memory forms of ModRM, reg the register forms, both; at a reg, or at a reg and an rm), the prefixes, the
+-- name or the names of eight regs or rms (`none` where the row isn't), the operands, and the memory size (of the
+-- memory form, and of the register form). A row that is refused has the error and the moment after which it comes. Of
+-- x86_operands, specs/Words.antt has the words, specs/Columns.antt what they mean, and specs/PlanSteps.antt what the
+-- letters mean.
 use Rattle.std.specs.Prelude.{List, [], ◌∷◌}
 use Rattle.x86_opcodes.specs.Names.{ADC, ADD, AESDEC128KL, AESDEC256KL, AESDECWIDE128KL, AESDECWIDE256KL, AESENC128KL, AESENC256KL}
 use Rattle.x86_opcodes.specs.Names.{AESENCWIDE128KL, AESENCWIDE256KL, AND, BT, BTC, BTR, BTS, CALL, CALLF, CLAC, CLFLUSH, CLFLUSHOPT, CLGI}

@@ -1,21 +1,25 @@
 //! What holds of the records of all groups, over the definitions alone, and where the default and the strict choice
 //! differ.
 
-ghost use Rattle.std.specs.Prelude.{◌≡◌, ◌≢◌, ◌≤◌, ◌⊎◌, ℕ, Bool, true, false, Some, Err};
+ghost use Rattle.std.specs.Prelude.{◌≡◌, ◌≢◌, ◌≤◌, ◌⊎◌, ℕ, Bool, true, false, All, Option, Some, None, Err};
 ghost use Rattle.x86_arch.specs.Reader.{State};
 ghost use Rattle.x86_fields.specs.declared.errors.DecodeError.TheVariants.{IncompleteDecoder};
 ghost use Rattle.x86_fields.specs.declared.prefixes.Prefixes.{Prefixes};
 ghost use Rattle.x86_fields.specs.ModRM.{reg_field};
+ghost use Rattle.x86_fields.specs.declared.raw.Raw.{Raw};
 ghost use Rattle.x86_forms.specs.declared.TableRow.{TableRow};
 ghost use Rattle.x86_forms.specs.Groups.{is_group};
 ghost use Rattle.x86_operands.specs.declared.plans.Fault.TheVariants.{Incomplete};
 ghost use Rattle.x86_operands.specs.declared.plans.Moment.{Moment};
 ghost use Rattle.x86_operands.specs.declared.plans.Moment.TheVariants.{AfterAddress};
 ghost use Rattle.x86_operands.specs.declared.plans.Verdict.TheVariants.{Refuses};
-ghost use Rattle.x86_operands.specs.PlanSteps.{record_step};
-ghost use Rattle.x86_groups.specs.Groups.{IsFenceWithRm, group_record, group_plan, operandless, bad_operand};
+ghost use Rattle.x86_operands.specs.declared.plans.OperandEncoding.TheVariants.{ConstantU8};
+ghost use Rattle.x86_operands.specs.Plans.{list_of};
+ghost use Rattle.x86_operands.specs.PlanSteps.{immediate_read, known_operand, record_step};
+ghost use Rattle.x86_groups.specs.Groups.{IsFenceWithRm, group_record, group_plan, operandless, bad_operand, record_of};
 
 use x86_forms::Form;
+use x86_operands::{Operand, Slot};
 
 /// Every group has a plan, and of the groups only 8F with a reg other than 0 isn't built: no other plan of a record
 /// refuses as `Incomplete`, and no record does so at the opcode byte. So `read_group` answers `IncompleteDecoder` for
@@ -61,4 +65,14 @@ pub fn choices_differ_on_fences()
         (fence : IsFenceWithRm row.form p m) → group_plan row p m false ≡ operandless fence.opcode }
     ensures strictly { (row : TableRow) (p : Prefixes) (m : ℕ) →
         IsFenceWithRm row.form p m → group_plan row p m true ≡ bad_operand }
+{}
+
+/// Of an operand in the plan of any row, for which no byte is read, `known_operand` makes an unsigned 0 only where the row
+/// has this constant: so its last line, for what no plan has, is reached by none.
+#[tactic(auto, using(crate::proofs::KnownLemmas::operands_known))]
+pub fn operands_are_known()
+    ensures { (strict : Bool) (row : TableRow) (p q : Prefixes) (m n : ℕ) (memory : Option Raw) →
+        All (λ s. immediate_read s ≡ None → known_operand s q m memory
+        ≡ (Slot.ImmU8, Operand.ImmediateU8 0) → s ≡ ConstantU8 0)
+        (list_of ((record_of strict row p).plan n).encodings) }
 {}

@@ -275,7 +275,8 @@ impl Operand {
         )
     }
 
-    /// The width in bytes of a register or an immediate. Memory has none: its size is the instruction's.
+    /// The width in bytes of an immediate, or of a register that isn't rounded. Memory has none: its size is the
+    /// instruction's.
     pub fn width(&self) -> Option<u8>
         ensures { result ≡ operand_width self.now }
     {

@@ -78,7 +78,8 @@ pub enum Names {
     ByRm([u16; 8]),
 }
 
-/// The size of what is read or written in memory.
+/// The memory size of a row: of what is read or written, or, where nothing is accessed, as of LEA, NOP and prefetches, the
+/// size that the row has.
 #[derive(Clone, Copy, Drop)]
 pub enum RowSize {
     Bytes(u8),

@@ -187,21 +187,21 @@ fn is_listed(alloc: Global, run: Run) -> bool {
 #[test]
 fn short_texts(rt: HostRuntime) {
     for (i, run) in SHORT.iter().enumerate() {
-        assert!(&rt; is_run(rt.alloc(), *run), "{i}");
+        assert!(&rt; is_run(rt.alloc(), *run), "run {i}");
     }
 }
 
 #[test]
 fn texts_up_to_the_limit(rt: HostRuntime) {
     for (i, run) in UP_TO_THE_LIMIT.iter().enumerate() {
-        assert!(&rt; is_listed(rt.alloc(), *run), "{i}");
+        assert!(&rt; is_listed(rt.alloc(), *run), "run {i}");
     }
 }
 
 #[test]
 fn texts_past_the_limit(rt: HostRuntime) {
     for (i, run) in PAST_THE_LIMIT.iter().enumerate() {
-        assert!(&rt; is_listed(rt.alloc(), *run), "{i}");
+        assert!(&rt; is_listed(rt.alloc(), *run), "run {i}");
     }
 }
 

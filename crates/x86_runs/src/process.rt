@@ -56,6 +56,6 @@ const CODES: &[(Status, u8)] = &[
 #[test]
 fn nothing_is_written_at_other_statuses(rt: HostRuntime) {
     for (status, code) in CODES {
-        assert!(&rt; finishes(rt.alloc(), *status, false, *code, ""));
+        assert!(&rt; finishes(rt.alloc(), *status, false, *code, ""), "{code}");
     }
 }

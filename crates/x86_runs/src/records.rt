@@ -110,6 +110,6 @@ fn has_calls(alloc: Global, run: &Run) -> bool {
 #[test]
 fn calls_in_their_order(rt: HostRuntime) {
     for (i, run) in RUNS.iter().enumerate() {
-        assert!(&rt; has_calls(rt.alloc(), run), "{i}");
+        assert!(&rt; has_calls(rt.alloc(), run), "run {i}");
     }
 }

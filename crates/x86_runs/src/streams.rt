@@ -37,7 +37,10 @@ const FAILING: &[(u64, &str, Status)] = &[
 fn failing_sinks(rt: HostRuntime) {
     for (fails, written, status) in FAILING {
         let sink = ArraySink::<64>::new(*fails);
-        assert!(&rt; stops_at(rt.alloc(), "list", TEXT, sink, written, *status));
+        assert!(&rt;
+            stops_at(rt.alloc(), "list", TEXT, sink, written, *status),
+            "{fails}"
+        );
     }
 }
 

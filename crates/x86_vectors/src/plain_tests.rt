@@ -178,31 +178,30 @@ fn byte_agrees(prefix: u8, escape: [u8; 3], byte: u8, modrm: u8) -> bool {
     ])
 }
 
-/// Every opcode byte of a map, with a register form and with a memory form after it.
-fn map_agrees(prefix: u8, escape: [u8; 3]) -> bool {
+/// The first opcode byte of a map on which they don't agree, with a register form or with a memory form after it.
+fn unlike(prefix: u8, escape: [u8; 3]) -> Option<u8> {
     for byte in 0..=255u8 {
         if !byte_agrees(prefix, escape, byte, 0xc1) || !byte_agrees(prefix, escape, byte, 0x44) {
-            return false;
+            return Some(byte);
         }
     }
-    true
+    None
 }
+
+/// The maps, each as what is before its opcode byte.
+const ESCAPES: [[u8; 3]; 4] = [
+    [0x2e, 0x2e, 0x48],
+    [0x2e, 0x2e, 0x0f],
+    [0x2e, 0x0f, 0x38],
+    [0x2e, 0x0f, 0x3a],
+];
 
 #[test]
 fn every_opcode_by_a_plain_loop(rt: HostRuntime) {
     for prefix in [0x2eu8, 0x66, 0xf2, 0xf3, 0xf0, 0x67] {
-        assert!(rt;
-            map_agrees(prefix, [0x2e, 0x2e, 0x48]),
-            "REX after {prefix}"
-        );
-        assert!(rt; map_agrees(prefix, [0x2e, 0x2e, 0x0f]), "0F after {prefix}");
-        assert!(rt;
-            map_agrees(prefix, [0x2e, 0x0f, 0x38]),
-            "0F 38 after {prefix}"
-        );
-        assert!(rt;
-            map_agrees(prefix, [0x2e, 0x0f, 0x3a]),
-            "0F 3A after {prefix}"
-        );
+        for escape in ESCAPES {
+            let byte = unlike(prefix, escape);
+            assert!(rt; byte.is_none(), "{prefix} {escape:?} {byte:?}");
+        }
     }
 }

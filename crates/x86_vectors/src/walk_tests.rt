@@ -135,8 +135,8 @@ fn files() -> [[u64; 16]; 3] {
     [small, wide, mixed]
 }
 
-/// The form with each REX bit, 67 or none, and three displacements.
-fn variants_are_right(modrm: ModRM, sib: Sib) -> bool {
+/// The encoding of the first form that is wrong, of those with each REX bit, 67 or none, and three displacements.
+fn wrong_variant(modrm: ModRM, sib: Sib) -> Option<ArrayVec<u8, 15>> {
     for bits in 0..8u8 {
         for disp in [0, 5, -3] {
             let form = MemoryForm {
@@ -148,30 +148,34 @@ fn variants_are_right(modrm: ModRM, sib: Sib) -> bool {
                 disp,
             };
             if !form.is_right() {
-                return false;
+                return Some(form.bytes());
             }
         }
     }
-    true
+    None
 }
 
-/// The forms of a ModRM, with each SIB where there is one.
-fn forms_are_right(modrm: ModRM) -> bool {
+/// The same of the forms of a ModRM, with each SIB where there is one.
+fn wrong_form(modrm: ModRM) -> Option<ArrayVec<u8, 15>> {
     if !requires_sib(modrm) {
-        return variants_are_right(modrm, Sib::new(0));
+        return wrong_variant(modrm, Sib::new(0));
     }
     for sib in 0..=255u8 {
-        if !variants_are_right(modrm, Sib::new(sib)) {
-            return false;
+        let wrong = wrong_variant(modrm, Sib::new(sib));
+        if wrong.is_some() {
+            return wrong;
         }
     }
-    true
+    None
 }
 
 #[test]
 fn every_memory_form(rt: HostRuntime) {
     for byte in 0..=255u8 {
         let modrm = ModRM::new(byte);
-        assert!(rt; !modrm.is_memory() || forms_are_right(modrm), "{byte}");
+        if modrm.is_memory() {
+            let wrong = wrong_form(modrm);
+            assert!(rt; wrong.is_none(), "{byte} {wrong:?}");
+        }
     }
 }

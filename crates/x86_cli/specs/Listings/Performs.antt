@@ -18,8 +18,8 @@ pub record Task : Type 0 where
   pub known : Text → Listing
   pub lists : Text → Listing
 
--- The rule of reading. Each read was made where, should it fail, nothing were left to write but the line of a read
--- fault: what was read so far decides no more, and all that it decides was written and flushed. It has room for 64 KiB. None follows the end of
+-- The rule of reading. Each read was made where what was read so far decides no more: what is known of it, should the read
+-- fail, is what was written and flushed, and then the line of a read fault. It has room for 64 KiB. None follows the end of
 -- the input, or an error. No call follows one of the writer that failed.
 abbrev pub ByRule : (known : Text → Listing) → (List ℕ → Stop → Text) → List Call → Type 0
 ByRule known text [] = ⊤
