@@ -65,6 +65,11 @@ def section(text, heading):
     return parts[1].split("\n## ")[0] if len(parts) > 1 else ""
 
 
+def first_cells(text, heading):
+    """What the first cells of the table below a heading have, without the table's head."""
+    return {*re.findall(r"^\| (?!reason )([^|-][^|]*?) \|", section(text, heading), re.M)}
+
+
 def indent(line):
     return len(line) - len(line.lstrip(" "))
 
