@@ -48,8 +48,7 @@ def heads(forms):
     for form, carries in forms.items():
         after, row = head(form, spans[form][0])
         lines += [f"    head!({after} {row}), // {form}"] * (CARRIED if carries else 1)
-    note = "/// The head of each form by the number that words have for it. A form that carries a number has eight."
-    return ["", note, f"pub(crate) const HEADS: &[Head; {len(lines)}] = &[", *lines, "];"]
+    return lines
 
 
 def cell(rows, first, memory, reg, numbers):
@@ -75,12 +74,8 @@ def cells(forms, numbers):
     lines = ["    0, // the number 0, which no form has"]
     for form, carries in forms.items():
         lines += [f"    {places.get(form, 0)}, // {form}"] * (CARRIED if carries else 1)
-    note = "/// Which cells each form has, by the number that words have for it. The first ones are of forms that have none."
-    yield from ["", note, f"pub(crate) const CELLS_AT: &[u8; {len(lines)}] = &[", *lines, "];"]
-    yield from ["", "/// The cells of each group: those of the memory forms by reg, then those of the register forms."]
-    yield f"pub(crate) const CELLS: &[[Cell; 16]; {1 + len(of)}] = &["
-    yield from ["    [", *["        cell!(0 0),"] * 16, "    ],"]
+    groups = ["    [", *["        cell!(0 0),"] * 16, "    ],"]
     for form in of:
         here = [cell(every[form], spans[form][0], memory, reg, numbers) for memory in (True, False) for reg in range(8)]
-        yield from ["    [", *(f"        {noted(*each)}" for each in here), f"    ], // {name_of(form)}"]
-    yield "];"
+        groups += ["    [", *(f"        {noted(*each)}" for each in here), f"    ], // {name_of(form)}"]
+    return {"CELLS_AT": lines, "CELLS": groups}

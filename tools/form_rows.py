@@ -6,7 +6,6 @@ It also says with the row what the proof doesn't: a row that is never reached, a
 import functools
 import re
 import sys
-import textwrap
 from dataclasses import dataclass
 from itertools import product
 from pathlib import Path
@@ -63,10 +62,6 @@ MM = {"Gmm": ("G", "Mm"), "Emm": ("E", "Mm"), "Umm": ("E", "Mm"), "StRm": ("E", 
 BYTES = {0: "Zero", 1: "One", 2: "Two", 4: "Four", 8: "Eight", 10: "Ten", 16: "Sixteen", 48: "FortyEight", UNDECIDED: "Undecided", 64: "SixtyFour"}
 # the last operands that are read at once
 AT_ONCE = ("I8", "U8", "U16", "I32", "Iv", "Ivq", "Ip", "ConstantI8", "ConstantU8", "Implied")
-# where a table's names are: the types, and the enums whose variants it has
-TYPES = {"plans": ["OperandEncoding", "PointerSlot", "RegisterSlot"], "rows": ["Reg", "Rm", "TemplateRow"]}
-ENUMS = {"plans": ["OperandEncoding"], "rows": ["Names", "When"]}
-
 
 @dataclass
 class Row:
@@ -348,44 +343,6 @@ def noted(text, note):
     return f"{text}, // {note}" if note else f"{text},"
 
 
-def in_order(words):
-    """The key by which imports are sorted: numbers in a word count as numbers."""
-    return [re.sub(r"\d+", lambda number: number[0].zfill(3), word) for word in words]
-
-
-def use_lines(uses):
-    """The imports of the names of each path."""
-    for path in sorted(uses, key=lambda path: in_order([*path.split("::"), "{" if len(uses[path]) > 1 else min(uses[path])])):
-        listed = ", ".join(sorted(uses[path], key=lambda name: in_order([name])))
-        line = f"use {path}::{{{listed}}};" if len(uses[path]) > 1 else f"use {path}::{listed};"
-        if len(line) <= 100:
-            yield line
-        else:
-            yield from [f"use {path}::{{", *textwrap.wrap(f"{listed},", 100, initial_indent="    ", subsequent_indent="    "), "};"]
-
-
-def variants(path, name):
-    body = re.search(rf"^pub enum {name} \{{\n(.*?)^\}}", (CRATES / path).read_text(), re.M | re.S)[1]
-    return {*re.findall(r"^    (\w+)", body, re.M)}
-
-
-def imports(crate, constants, entries, others):
-    """The imports of a table: what its constants and its rows name, and others."""
-    of = {path: {*listed} for path, listed in others.items()}
-    typed = {"TemplateRow", *re.findall(r"(?<![\w:])(\w+)::", "\n".join([*constants, *entries]))}
-    typed.update(["OperandEncoding"] if constants else [])
-    named = {*re.findall(r"(?<![\w:])\w+", "\n".join([*constants, *entries]))}
-    found = [(f"{crate}::{path}".removesuffix("::"), typed.intersection(types)) for path, types in TYPES.items()]
-    found += [("x86_regs", typed & {"RegisterClass"}), ("x86_fields::Width", named & variants("x86_fields/src/sizes.rt", "Width"))]
-    for path, enums in ENUMS.items():
-        source = f"x86_operands/src/{path}.rt"
-        found += [(f"{crate}::{path}::{enum}", named & variants(source, enum)) for enum in enums]
-    for path, here in found:
-        if here:
-            of[path] = of.get(path, set()) | here
-    return [*use_lines(of)]
-
-
 def placed(function, forms):
     """Where the rows of each form are in the table, the first and the one after the last; a form that has none has the first row."""
     every, place, answer = rows_of(function), 1, {}
@@ -396,26 +353,13 @@ def placed(function, forms):
     return answer
 
 
-def row_tables(function, forms, numbers):
-    """The table of all rows, and where those of each ordinal are."""
+def tables(function, forms, numbers):
+    """The constants of a table of rows, for operands that have a word; the rows of all forms, after that of a form that has none; and the first row of each
+    ordinal, with the one after its last."""
     every, spans = rows_of(function), placed(function, forms)
+    operands = {text for each in every.values() for row in each for _, text in Template(row.operands).last}
+    constants = [f"{constant(word)}: OperandEncoding = {spelling(word)};" for word in letters() if constant(word) in operands]
     rows = [(entry(every["f"][0], numbers), "")]
     rows += [(entry(each, numbers), f"{name_of(form)} {spelled(each)}".strip()) for form in forms for each in every.get(form, [])]
-    yield from ["", "/// The rows of all forms, after that of a form that has none."]
-    yield from [f"pub(crate) const ROWS: &[TemplateRow; {len(rows)}] = &[", *(f"    {noted(*row)}" for row in rows), "];"]
-    lines = [line for form in forms for line in [f"    {spans[form]}, // {form}"] * (CARRIED if forms[form] else 1)]
-    yield from ["", "/// The first row of each ordinal, and the one after its last. A form that carries a number has eight ordinals."]
-    yield from [f"pub(crate) const SPANS: &[(u16, u16); {len(lines)}] = &[", *lines, "];"]
-
-
-def table(function, forms, numbers, others, more):
-    """The lines of a table of rows from the imports on, for the forms that the function has rows of, and more tables."""
-    rows = [row for form in ["f", *forms] for row in rows_of(function).get(form, [])]
-    operands = [text for row in rows for _, text in Template(row.operands).last]
-    constants = ["const ABSENT: OperandEncoding = OperandEncoding::ABSENT;"]
-    constants += [f"const {constant(word)}: OperandEncoding = {spelling(word)};" for word in letters() if constant(word) in operands]
-    columns = [f"{names(row.names, numbers)} Reg::{row.reg} Rm::{row.rm} {entry(row, numbers).split('; ')[1]}" for row in rows if row.names]
-    columns += [entry(row, numbers).split("; ")[1] for row in rows]
-    crate = "crate" if function == PLAIN else "x86_operands"
-    answer = imports(crate, constants, [*operands, *columns], others)
-    return answer + [line for each in constants for line in ("", each)] + [*row_tables(function, forms, numbers)] + more
+    lines = [f"    {spans[form]}, // {form}" for form in forms for _ in range(CARRIED if forms[form] else 1)]
+    return constants, {"ROWS": [f"    {noted(*row)}" for row in rows], "SPANS": lines}

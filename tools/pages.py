@@ -23,7 +23,7 @@ README.md or a page of docs/ names by its crate, by tools/ or by docs/ is there,
 
 Figures of a page that are older than the code that they measure are named.
 
-Counts of rows, names, forms, C functions and worked encodings on README.md and the pages of `read_counts` are those of the sources.
+Counts of rows, names, forms, C functions and worked encodings on README.md and the pages of `counts` are those of the sources.
 
 Reasons of tools/compare: those of tools/judge/reasons.c are the rows of their section of docs/DIFFERENCES.md. The modules of lemmas in docs/DECISIONS.md are those that proofs of x86_decode import.
 """
@@ -42,7 +42,7 @@ sys.dont_write_bytecode = True
 import recipes
 import tables
 from sources import CODE as CODE_PATHS
-from sources import TOP, built, git, packages, worked_lines
+from sources import TOP, anchor, built, first_cells, git, packages, section, worked_lines
 
 PROGRAM, SHOW = built("x86", "PROGRAM"), built("x86_show", "SHOW")
 ENVIRONMENT = os.environ | {"SHOW": "./show"}  # for `dis`
@@ -68,11 +68,10 @@ LINKING = ["docs/THEOREM.md", "docs/DEFINITIONS.md"]
 NAMING = [f"docs/{page.name}" for page in sorted((TOP / "docs").glob("*.md")) if page.name != "CHANGES.md"]
 
 
-def blocks(page, section=""):
+def blocks(page, heading=""):
     """The blocks of indented lines of a page, or of its section with a heading, each as its lines."""
     block, text = [], (TOP / page).read_text()
-    if section:
-        text = text.split(section + "\n")[1].split("\n## ")[0]
+    text = section(text, heading) if heading else text
     for line in [*text.splitlines(), "end"]:
         if line.startswith("    "):
             block.append(line[4:])
@@ -83,9 +82,9 @@ def blocks(page, section=""):
             block = []
 
 
-def examples(page, section=""):
+def examples(page, heading=""):
     """The commands of a page, each with the text that it prints. A command continues in lines after `> `."""
-    for block in blocks(page, section):
+    for block in blocks(page, heading):
         if block[0].startswith("$ "):
             for part in re.split(r"^\$ ", "\n".join(block), flags=re.M)[1:]:
                 command, *rest = part.split("\n")
@@ -193,7 +192,7 @@ def costs_of_recipes(page, code):
     with tempfile.TemporaryDirectory() as folder:
         program_in(folder)
         (Path(folder) / "big.hex").write_text(re.sub("(.{60})", "\\1\n", code.hex()))
-        for command, _ in examples(page, "## Recipes"):
+        for command, _ in examples(page, "Recipes"):
             if lacking(command):
                 continue
             command = re.sub(r"printf '[0-9a-f ]+'", "cat big.hex", command)
@@ -224,7 +223,7 @@ def try_recipes(page):
         return 0
     with tempfile.TemporaryDirectory() as folder:
         program_in(folder)
-        return recipes.tried(page, [command for command, _ in examples(page, "## Recipes") if not lacking(command)], run, folder)
+        return recipes.tried(page, [command for command, _ in examples(page, "Recipes") if not lacking(command)], run, folder)
 
 
 def dedent(lines):
@@ -236,112 +235,86 @@ def dedent(lines):
 def occurs_in(block, text):
     """Whether the lines occur in the text, one below the other, all as far to the right as the first."""
     lines = text.split("\n")
-    for at in range(len(lines) - len(block) + 1):
-        if lines[at].endswith(block[0]) and dedent(lines[at : at + len(block)]) == dedent(block):
-            return True
-    return False
+    spans = (lines[at : at + len(block)] for at, line in enumerate(lines) if line.endswith(block[0]))
+    return any(dedent(span) == dedent(block) for span in spans)
 
 
-def read_guide(page, code, has_outputs=False):
-    """Looks for the examples of a page in the files of code, and perhaps for what it prints after commands. It answers how many aren't there."""
+# ---- What a page has that isn't so: each answers sentences ----
+
+
+def guide(page, code, has_outputs=False):
+    """The examples of a page that aren't in the files of code, and perhaps what it prints after commands."""
     files = [file for name in code for file in ([TOP / name] if (TOP / name).is_file() else sorted((TOP / name).rglob("*"))) if file.is_file()]
     texts = [file.read_text() for file in files]
-    wrong = 0
     wanted = [block for block in blocks(page) if not block[0].startswith("$ ")]
     wanted += [printed.split("\n") for _, printed in examples(page) if has_outputs and printed]
-    for block in wanted:
-        if not any(occurs_in(block, text) for text in texts):
-            print(f"pages: {page}: no test has these lines:\n" + "\n".join(block), file=sys.stderr)
-            wrong += 1
-    return wrong
+    return ["no test has these lines:\n" + "\n".join(block) for block in wanted if not any(occurs_in(block, text) for text in texts)]
 
 
-def read_quotes(page):
-    """Looks for the quoted lines of code of a page in all sources, and answers how many aren't there."""
+def quotes(page):
+    """The quoted lines of code of a page that are in no source."""
     files = [file for ending in ("*.rt", "*.antt", "*.edit") for file in (TOP / "crates").rglob(ending) if "out" not in file.parts]
     lines = {line.strip() for file in files for line in file.read_text().splitlines()}
     quoted = [line for block in blocks(page) if not block[0].startswith("$ ") and "─" not in block[0] for line in block]
-    missing = [line for line in quoted if line and line.strip() not in lines]
-    for line in missing:
-        print(f"pages: {page}: no source has this line: {line}", file=sys.stderr)
-    return len(missing)
+    return [f"no source has this line: {line}" for line in quoted if line and line.strip() not in lines]
 
 
-def read_size(page):
-    """Whether a crate's page is missing, or hasn't ten to thirty lines."""
+def crate(page):
+    """Whether a crate's page is missing, or hasn't ten to thirty lines; and its examples."""
     lines = len((TOP / page).read_text().splitlines()) if (TOP / page).exists() else 0
-    if not 10 <= lines <= 30:
-        print(f"pages: {page} has {lines} lines, and not ten to thirty", file=sys.stderr)
-    return not 10 <= lines <= 30
+    return guide(page, TESTS) if 10 <= lines <= 30 else [f"{lines} lines, and not ten to thirty"]
 
 
-def anchors(page):
-    """What a link may name of a page: its headings, in small letters, with hyphens for blanks."""
-    headings = re.findall(r"^#+ (.*)$", (TOP / page).read_text(), re.M)
-    return {re.sub(r"[^\w\- ]", "", heading.lower()).replace(" ", "-") for heading in headings}
-
-
-def read_links(page):
-    """Looks for what the links of a page of docs/ name, and answers how many name nothing."""
-    wrong = 0
+def links(page):
+    """The links of a page of docs/ that name nothing: no file, or no heading or line of it."""
     for link, heading in re.findall(r"\]\((?!https?:)([^)#]+)#?([^)]*)\)", (TOP / page).read_text()):
         target = TOP / "docs" / link
-        places = anchors(target) if target.suffix == ".md" else {f"L{at + 1}" for at in range(target.read_text().count("\n"))} if target.is_file() else ()
+        text = target.read_text() if target.is_file() else ""
+        places = map(anchor, re.findall(r"^#+ (.*)$", text, re.M)) if target.suffix == ".md" else (f"L{at + 1}" for at in range(text.count("\n")))
         if not target.exists() or (heading and heading not in places):
-            print(f"pages: {page}: a link to nothing: {link} {heading}", file=sys.stderr)
-            wrong += 1
-    return wrong
+            yield f"a link to nothing: {link} {heading}"
 
 
-def read_paths(page):
-    """Looks for the files that a page names by their crate, by tools/ or by docs/, and answers how many aren't there."""
+def paths(page):
+    """The files that a page names by their crate, by tools/ or by docs/, and that aren't there."""
     named = re.findall(r"\b((?:x86\w*|guide_\w+)/(?:src|specs|proofs|must-fail)/[\w./-]*\w|(?:tools|docs)/[\w./-]*\w)", (TOP / page).read_text())
-    missing = [path for path in dict.fromkeys(named) if not (TOP / path).exists() and not (TOP / "crates" / path).exists()]
-    for path in missing:
-        print(f"pages: {page}: no file is {path}", file=sys.stderr)
-    return len(missing)
+    return [f"no file is {path}" for path in dict.fromkeys(named) if not (TOP / path).exists() and not (TOP / "crates" / path).exists()]
 
 
-def read_reasons(page):
-    """Holds the reasons of tools/compare against the rows of their section, and answers how many are in one alone."""
-    names = set(re.findall(r'^    \{"([^"]+)", "', (TOP / "tools" / "judge" / "reasons.c").read_text(), re.M))
-    section = (TOP / page).read_text().split("## Other answers than zydis\n")[1].split("\n## ")[0]
-    unlike = names ^ (set(re.findall(r"^\| ([^|]*?) \|", section, re.M)) - {"reason"})
-    for name in unlike:
-        print(f"pages: {page}: a reason of tools/judge/reasons.c without a row, or a row without one: {name}", file=sys.stderr)
-    return len(unlike)
+def reasons(page):
+    """The reasons of tools/compare, and the rows of their section, that one of the two alone has."""
+    names = re.findall(r'^    \{"([^"]+)", "', (TOP / "tools" / "judge" / "reasons.c").read_text(), re.M)
+    unlike = {*names} ^ first_cells((TOP / page).read_text(), "Other answers than zydis")
+    return [f"a reason of tools/judge/reasons.c without a row, or a row without one: {name}" for name in unlike]
 
 
-def read_lemmas(page):
-    """Holds the modules of lemmas that proofs of x86_decode import against their table, and answers how many are in one alone."""
+def lemmas(page):
+    """The modules of lemmas that proofs of x86_decode import, and the rows of their table, that one of the two alone has."""
     texts = "\n".join(path.read_text() for path in (TOP / "crates" / "x86_decode" / "proofs").rglob("*.antt"))
     imported = {*re.findall(r"^use Rattle\.(?!x86_decode)(x86_\w+)\.proofs\.(\w+)", texts, re.M)}
     rows = re.findall(r"^\| `(x86_\w+)` ((?:\w+Lemmas(?:, )?)+) \|", (TOP / page).read_text(), re.M)
     unlike = imported ^ {(crate, module) for crate, modules in rows for module in modules.split(", ")}
-    for crate, module in sorted(unlike):
-        print(f"pages: {page}: {module} of {crate} is imported by x86_decode without a row, or has a row alone", file=sys.stderr)
-    return len(unlike)
+    return [f"{module} of {crate} is imported by x86_decode without a row, or has a row alone" for crate, module in sorted(unlike)]
 
 
-def read_counts():
-    """Holds the counts of the pages against the sources, and answers how many are others, or aren't there."""
-    rows = sum(len(each) for each in tables.rows().values())
+def counts(page):
+    """The counts of a page that are others than those of the sources, or aren't there."""
     groups = (TOP / "crates/x86_forms/specs/Groups.antt").read_text().count("form.")
     functions = len(re.findall(r"^(?!-|#)", (TOP / "tools/trusted.txt").read_text().rstrip(), re.M))
-    counts = {
-        r"opcode maps\s+as (\S+) rows": (["README.md"], [rows]),
-        r"(\d+) names\b": (["docs/DECISIONS.md", "crates/x86_opcodes/README.md"], [len(tables.names())]),
-        r"Of the (\d+) forms (\d+) are groups": (["docs/ROWS.md"], [len(tables.forms()), groups]),
-        r"contracts of (\d+) C functions": (["README.md", "docs/PROVED.md"], [functions]),
-        r"([\d,]+) (?:worked\s+)?encodings": (["README.md", "docs/PROVED.md", "crates/x86_vectors/README.md"], [len(worked_lines()) // 100 * 100]),
+    encodings = r"([\d,]+) (?:worked\s+)?encodings", [len(worked_lines()) // 100 * 100]
+    names, of_c = (r"(\d+) names\b", [len(tables.names())]), (r"contracts of (\d+) C functions", [functions])
+    wanted = {
+        "README.md": [(r"opcode maps\s+as (\S+) rows", [sum(map(len, tables.rows().values()))]), of_c, encodings],
+        "docs/PROVED.md": [of_c, encodings],
+        "docs/DECISIONS.md": [names],
+        "crates/x86_opcodes/README.md": [names],
+        "crates/x86_vectors/README.md": [encodings],
+        "docs/ROWS.md": [(r"Of the (\d+) forms (\d+) are groups", [len(tables.forms()), groups])],
     }
-    wrong = 0
-    for said, (named, wanted) in counts.items():
-        for page in named:
-            found = re.search(said, (TOP / page).read_text())
-            got = [int(number.replace(",", "")) for number in found.groups()] if found else []
-            wrong += differs(page, said, "counts", got, wanted)
-    return wrong
+    for said, numbers in wanted.get(page, ()):
+        found = re.search(said, (TOP / page).read_text())
+        if [int(number.replace(",", "")) for number in found.groups()] != numbers if found else True:
+            yield f"it says {found and found[0]} where the sources have {numbers}: {said}"
 
 
 def name_old_figures(page):
@@ -351,12 +324,19 @@ def name_old_figures(page):
             print(f"pages: {page}: figures of {date}, commit {commit}, are older than the code: {count} commits have changed it since")
 
 
+def read(readmes):
+    """Reads the pages, and answers how much in them isn't so."""
+    checks = [(guide, "docs/GUIDE.md", CODE, True), (guide, "README.md", CODE), (reasons, "docs/DIFFERENCES.md"), (lemmas, "docs/DECISIONS.md")]
+    checks += [(quotes, page) for page in QUOTING] + [(crate, page) for page in readmes] + [(links, page) for page in LINKING]
+    checks += [(check, page) for page in ["README.md", *NAMING] for check in (paths, counts)] + [(counts, page) for page in readmes if (TOP / page).exists()]
+    found = [f"pages: {page}: {what}" for check, page, *words in checks for what in check(page, *words)]
+    print("".join(f"{line}\n" for line in found), end="", file=sys.stderr)
+    return len(found)
+
+
 def main():
     readmes = [f"crates/{crate}/README.md" for crate in re.findall(r"^(\w+)\b.*:", (TOP / "crates.txt").read_text(), re.M)]
-    wrong = read_guide("docs/GUIDE.md", CODE, has_outputs=True) + read_guide("README.md", CODE) + sum(read_quotes(page) for page in QUOTING)
-    wrong += sum(read_size(page) or read_guide(page, TESTS) for page in readmes)
-    wrong += sum(read_links(page) for page in LINKING) + read_reasons("docs/DIFFERENCES.md")
-    wrong += sum(read_paths(page) for page in ["README.md", *NAMING]) + read_lemmas("docs/DECISIONS.md") + read_counts()
+    wrong = read(readmes)
     if os.access(PROGRAM, os.X_OK):
         wrong += run_examples("README.md") + sum(run_examples(page) for page in readmes if (TOP / page).exists())
         wrong += run_examples("docs/USAGE.md") + run_statuses("docs/USAGE.md")

@@ -54,6 +54,22 @@ def worked_lines():
     return [found for path in sorted((CRATES / "x86_vectors" / "src").glob("*.rt")) for found in line.findall(path.read_text())]
 
 
+def anchor(heading):
+    """What a link names of a heading."""
+    return re.sub(r"[^\w\- ]", "", heading.lower()).replace(" ", "-")
+
+
+def section(text, heading):
+    """What is below a heading, up to the next one, or nothing."""
+    parts = re.split(rf"^## {heading}.*\n", text, maxsplit=1, flags=re.M)
+    return parts[1].split("\n## ")[0] if len(parts) > 1 else ""
+
+
+def first_cells(text, heading):
+    """What the first cells of the table below a heading have, without the table's head."""
+    return {*re.findall(r"^\| (?!reason )([^|-][^|]*?) \|", section(text, heading), re.M)}
+
+
 def indent(line):
     return len(line) - len(line.lstrip(" "))
 
@@ -76,15 +92,15 @@ def type_file(crate, name):
 class Module:
     """A file of specs/ or src/: what it imports, and what it defines, each with its lines."""
 
-    def __init__(self, path):
+    def __init__(self, path, lines=None):
         self.path = path
-        if not (CRATES / path).is_file():
+        if lines is None and not (CRATES / path).is_file():
             raise Missing(f"there is no file {path}")
-        self.lines = (CRATES / path).read_text().split("\n")
+        self.lines = lines or (CRATES / path).read_text().split("\n")
         self.imports = {}
         self.passed_on = set()
         self.read_imports("\n".join(self.lines))
-        self.spans = self.find_definitions() if path.endswith(".antt") else {}
+        self.spans = self.find_definitions() if lines or path.endswith(".antt") else {}
         self.cases = self.find_cases()
 
     def read_imports(self, text):

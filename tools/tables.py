@@ -1,5 +1,5 @@
 #!/usr/bin/env python3
-"""Writes the files that only repeat what seven lists say, so that a name, a form or a row is edited in one place.
+"""Writes the tables that only repeat what seven lists say, so that a name, a form or a row is edited in one place.
 
     python3 tools/tables.py            writes them
     python3 tools/tables.py --check    changes nothing; says which are not what it would write, and then ends with status 1
@@ -14,7 +14,8 @@ The lists, which people edit:
     crates/x86_groups/specs/Rows.antt          the rows of the groups, a line for each row
     crates/x86_show/specs/Text/Entries.antt    how `show` writes an operation, a line for each that isn't written as its name
 
-tools/form_rows.py writes the tables of rows, and tools/form_cells.py which of them form, mod and reg alone choose.
+tools/form_rows.py has the tables of rows, and tools/form_cells.py which of them form, mod and reg alone choose. The script writes the lines of data alone:
+imports, heads of tables, functions and comments of the files are edited by hand.
 
 Nothing rests on this script. What it writes is checked like all other code: that the constants have the numbers and
 spellings of their names, that each form is at its ordinal, and that each table has the words of the rows, is proved.
@@ -41,18 +42,6 @@ SHOW = TOP / "crates" / "x86_show"
 MAPS = ["One", "Of", "Of38", "Of3a"]
 COLUMNS = ["Plain", "P66", "F3", "F2"]
 PART = 128  # how many constants a table has: a proof over a table of texts takes time by the square of its length
-NOTE = ["Written by tools/tables.py from {}.", "The proof doesn't rest on that script: a wrong entry is refused."]
-NAMED = """/// Constants, each by its number and its name. One word yields both, so a constant can't have another's name.
-macro_rules! named {
-    ($($name:ident)*) => {
-        [$((Opcode::$name.number, stringify!($name))),*]
-    };
-}""".splitlines()
-
-
-def note(mark, source):
-    """The comment on where a written file comes from."""
-    return [f"{mark} {line.format(source)}" for line in NOTE]
 
 
 def lines_of(text, first, last, pattern):
@@ -144,118 +133,83 @@ def words(map_rows, column):
     return answer
 
 
-def names_antt():
-    lines = ["-- The numbers of the opcodes, which clauses name. A number only distinguishes names."]
-    lines += note("--", "specs/Mnemonics.antt")
-    lines += ["use Rattle.std.specs.Prelude.{ℕ, List, [], ◌∷◌}", ""]
-    for number, name in enumerate(names()):
-        lines += [f"abbrev pub {name} : ℕ", f"{name} = {number}", ""]
-    lines += ["-- every opcode in the order of the numbers", "abbrev pub every_opcode : List ℕ", "every_opcode ="]
-    lines += [f"    {name} ∷" for name in names()] + ["    []"]
-    return lines
+# ---- The files: each as its text, with other data ----
 
 
-def named_table(first, of):
-    """A table of the constants from a number on, each by the word that names it."""
-    lines = ["", f"/// The constants of the numbers from {first} on, by their names."]
-    lines += [f"pub(crate) const NAMED_{first // PART}: [(u16, &str); {len(of)}] = named!["]
-    return lines + textwrap.wrap(" ".join(of), 100, initial_indent="    ", subsequent_indent="    ") + ["];"]
+def between(text, first, last, lines):
+    """A text with these lines between a line and the next one of another form."""
+    parts = re.split(rf"(?m)(^{first}\n)(?:.*\n)*?(?=^{last}$)", text, maxsplit=1)
+    if len(parts) != 3:
+        sys.exit(f"tables.py: no lines from {first} to {last}")
+    return parts[0] + parts[1] + "".join(f"{line}\n" for line in lines) + parts[2]
 
 
-def names_rt():
-    count = len(names())
-    lines = ["//! The constants of the opcodes, their numbers and their spellings.", "//!"]
-    lines += note("//!", "specs/Mnemonics.antt") + ["use crate::Opcode;", "", "impl Opcode {"]
-    for number, name in enumerate(names()):
-        lines += [f"    pub const {name}: Opcode = Opcode {{ number: {number} }};", ""]
-    lines += ["    /// How many names there are, `Invalid` among them: the size of a table by `number`.", f"    pub const COUNT: usize = {count};", "}"]
-    lines += ["", "/// How many constants a table has. The last one has what is left.", f"pub(crate) const PART: u16 = {PART};"]
-    lines += ["", *NAMED]
-    for part in range(0, count, PART):
-        lines += named_table(part, names()[part : part + PART])
-    return lines
+def counted(text, name, count):
+    """A text with this length of a table."""
+    return re.sub(rf"(?m)^(pub.* {name}: .*; )\d+(\] = )", rf"\g<1>{count}\2", text)
 
 
-def ordinals_antt():
-    lines = ["-- The ordinals of the forms."] + note("--", "the variants of Form in src/lib.rt")
-    lines += ["use Rattle.std.specs.Prelude.{ℕ, ◌+◌}", "use Rattle.x86_forms.specs.declared.Form.{Form}"]
-    lines += ["use Rattle.x86_forms.specs.declared.Form.TheVariants as form", ""]
-    lines += ["-- how many forms come before a form, each with every number that it may carry"]
-    lines += ["unfoldable pub ordinal_of : Form → ℕ"]
-    ordinal = ordinals()
-    for form, carries in forms():
-        lines.append(f"ordinal_of (form.{form} n) = {ordinal[form]} + n" if carries else f"ordinal_of form.{form} = {ordinal[form]}")
-    lines += ["", "-- the ordinal of a form that carries 0, or nothing", "abbrev pub first_ordinal_of : Form → ℕ"]
-    for form, carries in forms():
-        lines.append(f"first_ordinal_of (form.{form} n) = {ordinal[form]}" if carries else f"first_ordinal_of form.{form} = {ordinal[form]}")
-    return lines
+def filled(text, tables, counts=None):
+    """A text with these lines in its tables. A table of one name is a line."""
+    for name, lines in tables.items():
+        if len(lines) == 1:
+            text = re.sub(rf"(?m)^(pub.* {name}: .* = \[).*(\];)$", lambda found: found[1] + lines[0].strip().rstrip(",") + found[2], text)
+        else:
+            text = between(text, rf"pub.* {name}: .*\[", r"\];", lines)
+        text = counted(text, name, (counts or {}).get(name, len(lines)))
+    return text
 
 
-def ordinals_rt():
-    every = []
-    for form, carries in forms():
-        every += [f"Form::{form}({number})" for number in range(form_rows.CARRIED)] if carries else [f"Form::{form}"]
-    lines = ["//! The forms in the order of their ordinals, each with every number that it may carry.", "//!"]
-    lines += note("//!", "the variants of `Form`")
-    lines += ["", "ghost use Rattle.std.specs.Prelude.{◌≡◌};", "ghost use Rattle.x86_forms.specs.Ordinals.{first_ordinal_of};", ""]
-    lines += ["use crate::Form;", ""]
-    lines += [f"pub(crate) const FORMS: &[Form; {len(every)}] = &["]
-    lines += [f"    {form}," for form in every] + ["];", ""]
-    lines += ["impl Form {", "    /// The ordinal of the form with 0 in place of the number that it carries."]
-    lines += ["    ///", "    /// So `Form::Zv_R(3)` has 0, and `Form::Eb_Gb` has 40.", "    #[inline(always)]"]
-    lines += ["    pub fn first_ordinal(&self) -> u8", "        ensures { result ≡ first_ordinal_of self.now }", "    {"]
-    lines += ["        match *self {"]
-    ordinal = ordinals()
-    for form, carries in forms():
-        lines.append(f"            Form::{form}{'(_)' if carries else ''} => {ordinal[form]},")
-    return lines + ["        }", "    }", "}"]
+def names_antt(text):
+    values = [line for number, name in enumerate(names()) for line in (f"abbrev pub {name} : ℕ", f"{name} = {number}", "")]
+    text = between(text, r"use Rattle\.std.*\n", "-- every opcode in the order of the numbers", values)
+    return between(text, "every_opcode =", r"    \[\]", [f"    {name} ∷" for name in names()])
 
 
-def table(name, entries):
-    lines = ["", f"pub(crate) const {name}: &[u64; 256] = &["]
-    for byte in range(0, 256, 8):
-        lines.append("    " + ", ".join(f"0x{word:05x}" for word in entries[byte : byte + 8]) + f", // {byte:02X}")
-    return lines + ["];"]
+def names_rt(text):
+    values = [line for number, name in enumerate(names()) for line in (f"    pub const {name}: Opcode = Opcode {{ number: {number} }};", "")]
+    text = between(text, r"impl Opcode \{", "    /// How many names.*", values)
+    text = re.sub(r"(?m)(COUNT: usize = )\d+;$", rf"\g<1>{len(names())};", text)
+    for part in range(0, len(names()), PART):
+        of = names()[part : part + PART]
+        lines = textwrap.wrap(" ".join(of), 100, initial_indent="    ", subsequent_indent="    ")
+        text = filled(text, {f"NAMED_{part // PART}": lines}, {f"NAMED_{part // PART}": len(of)})
+    return text
 
 
-def tables_rt():
-    lines = ["//! The words of the rows, by the opcode byte: eight on a line, followed by the byte of the first.", "//!"]
-    lines += ["//! The last two digits of a word are the form's ordinal and 1, the digits before them the opcode's number.", "//!"]
-    lines += note("//!", "specs/Rows.antt")
-    for of, map_rows in rows().items():
-        if of == "One":
-            lines += table("ONE", words(map_rows, "Plain"))
-            continue
-        for column in COLUMNS:
-            lines += table(f"{of}_{column}".upper(), words(map_rows, column))
-    return lines
+def ordinals_antt(text):
+    every = [(f"(form.{form} n)" if carries else f"form.{form}", ordinals()[form], carries) for form, carries in forms()]
+    text = between(text, "unfoldable pub ordinal_of : .*", "", [f"ordinal_of {form} = {at}{' + n' if carries else ''}" for form, at, carries in every])
+    first = [f"first_ordinal_of {form} = {at}" for form, at, _ in every]
+    return between(text + "\n", "abbrev pub first_ordinal_of : .*", "", first).removesuffix("\n")
 
 
-def name_table(name, size, texts):
-    """A table of names in blocks of a size: a line each, and all on one line where there is one."""
-    entries = [f'name!(b"{text:<{size}}", {len(text)})' for text in texts]
-    head = f"pub(crate) static {name}: [Name<{size}>; {len(texts)}] = ["
-    return [f"{head}{entries[0]}];"] if len(texts) == 1 else [head] + [f"    {entry}," for entry in entries] + ["];"]
+def ordinals_rt(text):
+    every = [f"    Form::{form}({number})," for form, carries in forms() for number in (range(form_rows.CARRIED) if carries else ["-"])]
+    text = filled(text, {"FORMS": [line.replace("(-)", "") for line in every]})
+    arms = [f"            Form::{form}{'(_)' if carries else ''} => {ordinals()[form]}," for form, carries in forms()]
+    return between(text, r"        match \*self \{", r"        \}", arms)
 
 
-def mnemonics_rt():
-    lines = ["//! The mnemonics as names, in the order of the opcodes' numbers.", "//!"]
-    lines += note("//!", "x86_opcodes/specs/Mnemonics.antt") + ["use crate::names::{Name, name};", ""]
-    return lines + name_table("MNEMONICS", 16, names())
+def words_table(map_rows, column):
+    """The words of a column: eight on a line, followed by the byte of the first."""
+    entries = words(map_rows, column)
+    return ["    " + ", ".join(f"0x{word:05x}" for word in entries[byte : byte + 8]) + f", // {byte:02X}" for byte in range(0, 256, 8)]
 
 
-def registers_rt():
-    lines = ["//! The names of the registers of each class, by number.", "//!"]
-    lines += note("//!", "x86_regs/specs/Names.antt") + ["use crate::names::{Name, name};"]
-    for of, texts in registers():
-        lines += [""] + name_table(of.upper(), 8, texts)
-    return lines
+def tables_rt(text):
+    columns = [(f"{of}_{column}".upper(), of, column) for of in MAPS[1:] for column in COLUMNS]
+    tables = {name: words_table(rows()[of], column) for name, of, column in [("ONE", "One", "Plain"), *columns]}
+    return filled(text, tables, dict.fromkeys(tables, 256))
 
 
-def sizes_rt():
-    lines = ["//! The sizes as an instruction's text ends with them, by number.", "//!"]
-    lines += note("//!", "specs/Lines.antt") + ["use crate::names::{Name, name};", ""]
-    return lines + name_table("SIZES", 4, [" m?" if size == form_rows.UNDECIDED else f" m{size}" for size in range(65)])
+def name_lines(size, texts):
+    """Names in blocks of a size."""
+    return [f'    name!(b"{text:<{size}}", {len(text)}),' for text in texts]
+
+
+def sizes_rt(text):
+    return filled(text, {"SIZES": name_lines(4, [" m?" if size == form_rows.UNDECIDED else f" m{size}" for size in range(65)])})
 
 
 def entries():
@@ -268,44 +222,39 @@ def entries():
         yield spelled or name.lower(), letters
 
 
-def entries_rt():
-    lines = ["//! How each operation is written, in the order of the opcodes' numbers.", "//!"]
-    lines += note("//!", "specs/Text/Entries.antt") + ["use crate::text::names::{Entry, entry};", ""]
-    lines += [f"pub(crate) static ENTRIES: [Entry; {len(names())}] = ["]
-    return lines + [f'    entry!(b"{text:<16}", {len(text)}, b"{letters}"),' for text, letters in entries()] + ["];"]
+def entries_rt(text):
+    return filled(text, {"ENTRIES": [f'    entry!(b"{spelled:<16}", {len(spelled)}, b"{letters}"),' for spelled, letters in entries()]})
 
 
-def rows_rt(of, function, others, more):
-    """A table of the rows of plain forms, or of groups."""
-    lines = [f"//! The rows of {of}: where, the prefixes, and what is there. A name is the number of an opcode, which", "//! the comment spells, and 0 is none.", "//!"]
-    lines += note("//!", "specs/Rows.antt")
-    return lines + form_rows.table(function, dict(forms()), numbers(), others, more)
+def rows_rt(text, function, more, counts=None):
+    """A table of the rows of plain forms, or of groups, and more tables."""
+    constants, tables = form_rows.tables(function, dict(forms()), numbers())
+    text = between(text, r"const ABSENT: .*\n", "/// The rows of all forms.*", [line for each in constants for line in (f"const {each}", "")])
+    return filled(text, tables | more, counts)
 
 
-def plain_tables_rt():
-    return rows_rt("the plain forms", form_rows.PLAIN, {"crate::heads": ["After", "Head", "head"]}, form_cells.heads(dict(forms())))
+def plain_tables_rt(text):
+    return rows_rt(text, form_rows.PLAIN, {"HEADS": form_cells.heads(dict(forms()))})
 
 
-def group_tables_rt():
-    others = {"crate::cells": ["Cell", "cell"], "x86_operands": ["read", "refused", "suffixed"]}
-    return rows_rt("the groups", form_rows.GROUPS, others, [*form_cells.cells(dict(forms()), numbers())])
+def group_tables_rt(text):
+    more = form_cells.cells(dict(forms()), numbers())
+    return rows_rt(text, form_rows.GROUPS, more, {"CELLS": len(more["CELLS"]) // 18})
 
 
-def written():
-    """Each file with its lines."""
-    return {
-        OPCODES / "specs" / "Names.antt": names_antt(),
-        OPCODES / "src" / "names.rt": names_rt(),
-        FORMS / "specs" / "Ordinals.antt": ordinals_antt(),
-        FORMS / "src" / "ordinals.rt": ordinals_rt(),
-        FORMS / "src" / "tables.rt": tables_rt(),
-        OPERANDS / "src" / "tables.rt": plain_tables_rt(),
-        GROUPS / "src" / "tables.rt": group_tables_rt(),
-        TEXT / "src" / "mnemonics.rt": mnemonics_rt(),
-        TEXT / "src" / "registers.rt": registers_rt(),
-        TEXT / "src" / "sizes.rt": sizes_rt(),
-        SHOW / "src" / "text" / "entries.rt": entries_rt(),
-    }
+WRITTEN = {
+    OPCODES / "specs" / "Names.antt": names_antt,
+    OPCODES / "src" / "names.rt": names_rt,
+    FORMS / "specs" / "Ordinals.antt": ordinals_antt,
+    FORMS / "src" / "ordinals.rt": ordinals_rt,
+    FORMS / "src" / "tables.rt": tables_rt,
+    OPERANDS / "src" / "tables.rt": plain_tables_rt,
+    GROUPS / "src" / "tables.rt": group_tables_rt,
+    TEXT / "src" / "mnemonics.rt": lambda text: filled(text, {"MNEMONICS": name_lines(16, names())}),
+    TEXT / "src" / "registers.rt": lambda text: filled(text, {of.upper(): name_lines(8, texts) for of, texts in registers()}),
+    TEXT / "src" / "sizes.rt": sizes_rt,
+    SHOW / "src" / "text" / "entries.rt": entries_rt,
+}
 
 
 def main():
@@ -316,9 +265,9 @@ def main():
     if found:
         sys.exit("\n".join(f"tables.py: {line}" for line in found))
     stale = False
-    for path, lines in written().items():
-        text = "\n".join(lines) + "\n"
-        if path.exists() and path.read_text() == text:
+    for path, write in WRITTEN.items():
+        text = write(path.read_text())
+        if path.read_text() == text:
             continue
         if check:
             stale = True

@@ -1,32 +1,31 @@
 #!/usr/bin/env python3
-"""Writes docs/THEOREM.md and its index, docs/DEFINITIONS.md, from tools/theorem.txt, tools/definitions.txt and the sources.
+"""Holds docs/THEOREM.md and its index, docs/DEFINITIONS.md, against the sources, and writes what they have of these.
 
     python3 tools/theorem.py            writes the pages
     python3 tools/theorem.py --check    says whether the pages are what it would write
 
-The templates are the pages with five kinds of lines in place of code, whose paths are below crates/:
+The pages are edited in place. Each block of code in THEOREM.md is of the definitions and functions that begin in it: the script writes them as they are
+in the sources, of a law with all clauses, of another function with those that are there. So a new one is added by its first line. In DEFINITIONS.md it
+writes the names in the lines `- [FILE](..): ..`, which are those of the file that a definition of the pages uses or a text names, and that THEOREM.md
+doesn't show; a name that is new there is put into the last line of its file. `LAW.CLAUSE` is a law of which one clause counts. The rows of **Linked** have the names that aren't shown, or `all` of a file.
+The index has where each name of both pages is.
 
-    @@ PATH NAME..       the definitions with these names, in this order
-    @@ PATH *            those of the file that a definition of the pages uses, and that THEOREM.md doesn't show
-    @! PATH BEGINNING    the item whose first line begins so: a function of src/ up to its body, a definition of proofs/ up to the next empty
-                         line, any other item up to its closing brace. After ` | ` the clauses of a function that are shown, or all
-    @= PATH BEGINNING    the line that begins so
-    @- PATH NAME.. | ..  a row of a table: names that are linked and not shown, and what they are. `*` are all of the file
-    @index               where each name of both pages is
-
-THEOREM.md has the code itself, and DEFINITIONS.md names, by section and file: the code is where the links lead, file and line.
 A name that a definition or a clause uses must be shown, linked, or explained in Notation, and has one definition; a name in
 the text of a page must be one of these too. A field that is shown has the name of a definition only where Notation says so.
 A clause of a table of THEOREM.md, PROVED.md or README.md must be one of the call that it names.
 """
 
+import functools
 import re
 import sys
 
 sys.dont_write_bytecode = True
-from sources import CRATES, TOP, Missing, clause_uses, definition, indent, module, uses
+from sources import CRATES, TOP, Missing, Module, anchor, clause_uses, indent, module, section, uses
 
-PAGES = {"docs/THEOREM.md": "tools/theorem.txt", "docs/DEFINITIONS.md": "tools/definitions.txt"}
+THEOREM, DEFINITIONS = PAGES = "docs/THEOREM.md", "docs/DEFINITIONS.md"
+LISTED = re.compile(r"- \[(.*?)\]\(\.\./crates/.*?\): (.*)")
+LINKED = re.compile(r"\| \[(.*?)\]\(\.\./crates/[^#]*?\) \| (all|`.*?`) \| .* \|")
+INDEX = "| name | in | source |"
 MOST = 400
 # The longest line of code in THEOREM.md, which breaks longer ones of the sources.
 WIDE = 136
@@ -38,10 +37,6 @@ OTHER = set("strict data record run rows x86 list main h p f e x y r c d n k s t
 
 def fail(message):
     sys.exit(f"theorem: {message}")
-
-
-def anchor(heading):
-    return re.sub(r"[^\w\- ]", "", heading.lower()).replace(" ", "-")
 
 
 def without_comments(lines):
@@ -91,9 +86,9 @@ def joined(lines):
     return out
 
 
-def owner(path, rest):
+def owner(path, name):
     """The type whose method this is, or nothing."""
-    above = re.split(rf"^ +{re.escape(rest.split(' | ')[0])}", (CRATES / path).read_text(), maxsplit=1, flags=re.M)
+    above = re.split(rf"^ +pub fn {name}\b", (CRATES / path).read_text(), maxsplit=1, flags=re.M)
     return re.findall(r"^impl(?:<.*?>)? (\w+)", above[0], re.M)[-1] + "::" if len(above) > 1 else ""
 
 
@@ -102,112 +97,155 @@ def in_one_line(lines):
     return re.sub(r"\(\n((?: +.*,\n)+) *\) ->", lambda found: "(" + " ".join(found[1].split()).rstrip(",") + ") ->", "\n".join(lines)).split("\n")
 
 
-def only(clauses, lines):
-    """The lines of a function, of whose clauses these are left."""
+def item(path, name, shown=()):
+    """The lines of a function of src/ without its body, with the clauses that are shown or all, or of another item whole."""
+    lines = (CRATES / path).read_text().split("\n")
+    starts = [at for at, line in enumerate(lines) if re.match(rf" *pub (?:fn|struct|enum|trait) {name}\b", line)]
+    if len(starts) != 1:
+        fail(f"{path} has {len(starts)} items that are called {name}")
+    first, margin = lines[starts[0]], indent(lines[starts[0]])
+    ends = ("{", "{}") if "pub fn" in first else ("}",)
+    end = next(at for at in range(starts[0] + 1, len(lines)) if lines[at].strip() in ends and indent(lines[at]) == margin)
     kept, keep = [], True
-    for line in lines:
+    for line in lines[starts[0] : end + ("pub fn" not in first)]:
         clause = re.match(r" *ensures (?:(\w+) )?\{", line)
-        keep = clause[1] in clauses if clause else keep
-        kept += [line] if keep else []
+        keep = not shown or clause[1] in shown if clause else keep
+        kept += [line[margin:]] if keep else []
     return kept
 
 
-def item(path, words, is_line=False):
-    """The lines of a function of src/ without its body, of another item whole, or of one line alone."""
-    beginning, _, clauses = words.partition(" | ")
-    lines = (CRATES / path).read_text().split("\n")
-    starts = [at for at, line in enumerate(lines) if line.strip().startswith(beginning)]
-    if len(starts) != 1:
-        fail(f"{path} has {len(starts)} lines that begin with: {beginning}")
-    if is_line:
-        return [lines[starts[0]].strip()]
-    margin = " " * indent(lines[starts[0]])
-    if path.endswith(".antt"):
-        end = lines.index("", starts[0])
-    elif beginning.startswith("pub fn"):
-        end = next(at for at in range(starts[0], len(lines)) if lines[at].strip() in ("{", "{}"))
-    else:
-        end = lines.index(margin + "}", starts[0]) + 1
-    found = [line[len(margin) :] for line in lines[starts[0] : end]]
-    for name in clauses.split():
-        if not any(line.strip().startswith(f"ensures {name} {{") for line in found):
-            fail(f"{path} has no clause {name} after: {beginning}")
-    return only(clauses.split(), found) if clauses else found
+@functools.cache
+def homes():
+    """The files of specs/ that define each name which others may use."""
+    found = {}
+    for file in sorted(CRATES.glob("*/specs/**/*.antt")):
+        of = module(str(file.relative_to(CRATES)))
+        for name in (name for name, (_, first, _) in of.spans.items() if re.search(r"\bpub\b", of.lines[first])):
+            found.setdefault(name, []).append(of.path)
+    return found
+
+
+def function_files(name, clauses):
+    """The files of src/ that have a function with these clauses."""
+    found = [str(path.relative_to(CRATES)) for path in CRATES.glob("*/src/**/*.rt") if re.search(rf"^ *pub fn {name}\b", path.read_text(), re.M)]
+    return [path for path in found if all(f"ensures {clause} {{" in "\n".join(item(path, name)) for clause in clauses)]
+
+
+def shown_in(lines):
+    """What begins in a block of code: a file with the names of definitions, or with a function and its clauses."""
+    parts, firsts = [], {first: name for name, (_, first, _) in Module("", lines).spans.items()}
+    for at, line in enumerate(lines):
+        function = re.match(r"pub fn (\w+)", line)
+        name = function[1] if function else firsts.get(at)
+        if name is None:
+            continue
+        clauses = re.findall(r"^ *ensures (\w+) \{", "\n".join(lines[at + 1 :]).split("\npub ")[0], re.M) if function else None
+        paths = function_files(name, clauses) if function else homes().get(name, [])
+        if len(paths) != 1:
+            fail(f"{THEOREM} shows {name}, which {len(paths)} files define: {' '.join(paths)}")
+        if not function and parts and parts[-1][0] == paths[0]:
+            parts[-1][1].append(name)
+        else:
+            parts.append((paths[0], [name], () if "/laws" in paths[0] else clauses))
+    return parts
+
+
+class Part:
+    """A part of a page: a line of it, or what is written of the sources, with the lines that are there now, a file, names in it and a link to the place."""
+
+    def __init__(self, kind, lines, path="", names=(), link=""):
+        self.kind, self.lines, self.path, self.names, self.link = kind, lines, path, list(names), link
+
+
+def parts_of(page):
+    """The parts of a page, and the headings by their links."""
+    parts, headings, heading = [], {}, ""
+    for line in (TOP / page).read_text().splitlines():
+        heading = line.lstrip("# ") if line.startswith("#") else heading
+        link = f"{page.split('/')[1]}#{anchor(heading)}"
+        headings[link] = f"{page[5:-3]}: {heading}".replace("`", "")
+        listed, linked = LISTED.fullmatch(line), LINKED.fullmatch(line)
+        if line.startswith("    "):
+            if parts[-1].kind != "code":
+                parts.append(Part("code", [], link=link))
+            parts[-1].lines.append(line[4:])
+        elif line == INDEX or parts and parts[-1].kind == "index":
+            parts.append(Part("index", [line]))
+        elif listed or linked:
+            found = listed or linked
+            names = ["*"] if found[2] == "all" else re.findall(r"`(.*?)`", found[2])
+            parts.append(Part("listed" if listed else "linked", [line], found[1], names, link))
+        else:
+            parts.append(Part("text", [line]))
+    return parts, headings
 
 
 class Pages:
     def __init__(self):
-        self.templates = {page: (TOP / template).read_text().splitlines() for page, template in PAGES.items()}
+        read = {page: parts_of(page) for page in PAGES}
+        self.parts = {page: parts for page, (parts, _) in read.items()}
+        self.headings = read[THEOREM][1] | read[DEFINITIONS][1]
+        every = [part for page in PAGES for part in self.parts[page]]
+        self.listed = [part for part in every if part.kind == "listed" and part.path.endswith(".antt")]
         # where each definition is shown or linked: its file and name to a link
-        self.places, self.linked, self.all_of, self.types, self.std, self.headings = {}, {}, {}, {}, set(), {}
-        # the members of shown traits and the functions, to a link; the fields of shown records and structs
-        self.members, self.fields = {}, set()
-        for page in PAGES:
-            self.read(page)
-        self.follow()
+        self.places, self.linked, self.types, self.std = {}, {}, {}, set()
+        # the members of shown traits and the functions, to a link; the fields of shown records and structs; what is used of the files of DEFINITIONS.md
+        self.members, self.fields, self.used = {}, set(), {part.path: set() for part in self.listed}
+        todo = self.read(every)
+        named = set(re.findall(r"`([\w\-]+)", "\n".join(line for part in every if part.kind == "text" for line in part.lines)))
+        todo += [(part.path, name) for part in self.listed for name in part.names if name in named and name in module(part.path).spans]
+        self.follow(todo)
+        self.place()
 
-    def commands(self, page):
-        heading = ""
-        for line in self.templates[page]:
-            heading = line.lstrip("# ") if line.startswith("#") else heading
-            if re.match(r"@[@!=-] ", line):
-                kind, path, rest = line.split(" ", 2)
-                link = f"{page.split('/')[1]}#{anchor(heading)}"
-                self.headings[link] = f"{page[5:-3]}: {heading}".replace("`", "")
-                yield kind, path, rest, link
+    def read(self, every):
+        """Notes what the pages have of the sources, and answers the definitions that this uses."""
+        todo = []
+        for part in every:
+            part.shown = shown_in(part.lines) if part.kind == "code" else []
+            for path, names, clauses in part.shown:
+                if clauses is None:
+                    self.places |= {(path, name): part.link for name in names}
+                    todo += [(path, name) for name in names]
+                else:
+                    todo += self.read_item(path, names[0], clauses, part.link)
+            if part.kind == "linked":
+                self.linked |= {(part.path, name): part.link for name in part.names}
+                for name in part.names if part.names != ["*"] else []:
+                    module(part.path).text(name)
+            elif part.kind == "listed" and part.path.endswith(".rt"):
+                calls = (name.partition(".") for name in part.names)
+                todo += [at for name, _, clause in calls for at in self.read_item(part.path, name, clause.split(), part.link)]
+        return todo
 
-    def read(self, page):
-        for kind, path, rest, link in self.commands(page):
-            names = rest.split(" | ")[0].split()
-            if kind == "@!":
-                self.read_item(path, rest, link)
-            elif kind == "@=":
-                continue
-            elif kind == "@-" or names == ["*"]:
-                for name in names:
-                    (self.linked if kind == "@-" else self.all_of)[path, name] = link
-            else:
-                for name in names:
-                    module(path).text(name)
-                    if (path, name) in self.places:
-                        fail(f"{name} of {path} is shown twice")
-                    self.places[path, name] = link
-        for path, name in self.linked:
-            if name != "*":
-                module(path).text(name)
+    def read_item(self, path, name, clauses, link):
+        """Notes an item of src/, and answers the definitions that its clauses use."""
+        lines = item(path, name, clauses)
+        kind = re.search(r"\bpub (\w+)", lines[0])[1]
+        if kind == "fn":
+            self.members.setdefault((path, owner(path, name) + name), link)
+        else:
+            self.types[path, name] = link
+        if kind == "struct":
+            self.fields |= set(re.findall(r"^    pub(?:\(\w+\))? (\w+):", "\n".join(lines), re.M))
+        for member in re.findall(r"^    (?:ghost|fn) (\w+)", "\n".join(lines), re.M) if kind == "trait" else []:
+            self.members.setdefault((path, f"{name}.{member}"), link)
+        return self.note(clause_uses(path, lines))
 
-    def read_item(self, path, rest, link):
-        if function := re.match(r"pub fn (\w+)", rest):
-            self.members.setdefault((path, owner(path, rest) + function[1]), link)
-        if found := re.match(r"pub (struct|enum|trait) (\w+)", rest):
-            self.types[path, found[2]] = link
-            text = "\n".join(item(path, rest))
-            if found[1] == "struct":
-                self.fields |= set(re.findall(r"^    pub(?:\(\w+\))? (\w+):", text, re.M))
-            for name in re.findall(r"^    (?:ghost|fn) (\w+)", text, re.M) if found[1] == "trait" else []:
-                self.members.setdefault((path, f"{found[2]}.{name}"), link)
-
-    def follow(self):
-        """Finds what the shown definitions use, until all is shown or linked."""
-        todo, seen = list(self.places), set()
-        users = {key: "docs/THEOREM.md" for key in todo}
-        for page in PAGES:
-            for kind, path, rest, _ in self.commands(page):
-                if kind in ("@!", "@="):
-                    todo += self.note(clause_uses(path, item(path, rest, kind == "@=")))
+    def follow(self, todo):
+        """Finds what the definitions use, until all is shown or linked."""
+        seen, users = set(), {}
         while todo:
             path, name = key = todo.pop()
             if key in seen:
                 continue
             seen.add(key)
             if key not in self.places:
-                link = self.linked.get(key) or self.linked.get((path, "*"))
-                if link:
+                if key in self.linked or (path, "*") in self.linked:
                     self.places[key] = None
                     continue
-                if (path, "*") not in self.all_of:
+                if path not in self.used:
                     fail(f"{name} is neither shown nor linked: {path}, used by {users.get(key, 'a clause')}")
-                self.places[key] = self.all_of[path, "*"]
+                self.used[path].add(name)
             if re.match(r" *(pub )?record ", module(path).lines[module(path).spans[name][1]]):
                 self.fields |= {match[1] for line in module(path).text(name) if (match := re.match(r" +(?:pub )?(\w+) : ", line))}
             for other in (found := self.note(uses(path, name))):
@@ -223,60 +261,41 @@ class Pages:
                 self.std.add(at[1])
         return [at[1:] for at in found if at[0] == "spec"]
 
+    def place(self):
+        """Puts each name that is used into the lines that have it, or into the last line of its file."""
+        for part in self.listed:
+            of = [other for other in self.listed if other.path == part.path]
+            new = self.used[part.path] - {name for other in of for name in other.names} if part is of[-1] else set()
+            part.names = [name for name in module(part.path).spans if name in self.used[part.path] and (name in part.names or name in new)]
+            if not part.names:
+                fail(f"nothing uses what {part.path} defines: take its line out of {DEFINITIONS}")
+            for name in part.names:
+                self.places.setdefault((part.path, name), part.link)
+
     def index(self):
         """A row for each name: where it is shown, and its file and line."""
-        rows = ["| name | in | source |", "|---|---|---|"]
+        rows = [INDEX, "|---|---|---|"]
         keys = {*self.places, *self.types, *self.members, *(key for key in self.linked if key[1] != "*")}
         for path, name in sorted(keys, key=lambda key: (key[1].lower(), key)):
             place = self.places.get((path, name)) or self.types.get((path, name)) or self.members.get((path, name))
             shown = f"[{self.headings[place]}]({place})" if place else "linked"
             rows.append(f"| `{name}` | {shown} | [{path}](../crates/{path}#L{line_of(path, name)}) |")
-        return "\n".join(rows)
+        return rows
 
-    def names_at(self, kind, path, rest):
-        """What a command of the index names."""
-        if kind != "@@":
-            return [re.search(r"(?:fn|struct|enum|trait) (\w+)", rest)[1]]
-        return rest.split() if rest != "*" else [n for n in module(path).spans if self.places.get((path, n)) == self.all_of[path, "*"]]
-
-    def code(self, kind, path, rest):
-        """The lines that stand for a command."""
-        if kind == "@@":
-            return joined(block(path, rest.split()))
-        lines = item(path, rest, kind == "@=")
-        return joined(lines) if path.endswith(".antt") else in_one_line(lines)
+    def written(self, part):
+        """The lines of a part as the sources have them."""
+        if part.kind == "listed":
+            return [f"- [{part.path}](../crates/{part.path}): " + ", ".join(f"`{name}`" for name in part.names)]
+        if part.kind == "index":
+            return self.index() if part.lines == [INDEX] else []
+        out = [] if part.kind == "code" else part.lines
+        for path, names, clauses in part.shown:
+            code = joined(block(path, names)) if clauses is None else in_one_line(item(path, names[0], clauses))
+            out += [("    " + line).rstrip() for it in code for line in wrapped(it)]
+        return out
 
     def text(self, page):
-        """A page; of the index of each file the names in place of the code."""
-        out, source, is_index = [], None, page != "docs/THEOREM.md"
-        for line in self.templates[page]:
-            if is_index and source and not re.match(r"@[@!] ", line):
-                if not line:
-                    continue
-                out.append("")
-            source = source if re.match(r"@[@!] |$", line) else None
-            if line == "@index":
-                out.append(self.index())
-            elif not re.match(r"@[@!=-] ", line):
-                out.append(line)
-            elif line.startswith("@- "):
-                _, path, rest = line.split(" ", 2)
-                names, _, what = rest.partition(" | ")
-                shown = ", ".join(f"`{name}`" for name in names.split()) if names != "*" else "all"
-                out.append(f"| [{path}](../crates/{path}) | {shown} | {what} |")
-            elif is_index:
-                kind, path, rest = line.split(" ", 2)
-                if not (names := self.names_at(kind, path, rest)):
-                    fail(f"nothing uses what {path} defines: take its line out of tools/definitions.txt")
-                named = ", ".join(f"`{name}`" for name in names)
-                if path == source:
-                    out[-1] += f", {named}"
-                else:
-                    out.append(f"- [{path}](../crates/{path}): {named}")
-                source = path
-            else:
-                out += [("    " + part).rstrip() for it in self.code(*line.split(" ", 2)) for part in wrapped(it)]
-        return "\n".join(out) + "\n"
+        return "\n".join(line for part in self.parts[page] for line in self.written(part)) + "\n"
 
     # ---- what a page must have
 
@@ -285,11 +304,13 @@ class Pages:
         return {name for _, name in [*self.places, *self.types, *self.linked]} | {name for path in whole for name in module(path).spans}
 
     def check(self, texts):
-        for name, paths in sorted(all_definitions({*self.places, *self.types}).items()):
-            if len(paths) > 1:
-                fail(f"{name} has two definitions: {' and '.join(sorted(paths))}")
-        self.check_fields("".join(section(text, "Notation") for text in texts.values()))
-        explained = set(re.findall(r"[\w\-]+", "".join(re.findall(r"`[^`]*`", "".join(section(text, "Notation") for text in texts.values())))))
+        for path, name in sorted({*self.places, *self.types}, key=lambda key: key[1]):
+            others = {path, *homes().get(name, ()), *(at for at, other in [*self.places, *self.types] if other == name)}
+            if len(others) > 1:
+                fail(f"{name} has two definitions: {' and '.join(sorted(others))}")
+        notation = "".join(section(text, "Notation") for text in texts.values())
+        self.check_fields(notation)
+        explained = set(re.findall(r"[\w\-]+", "".join(re.findall(r"`[^`]*`", notation))))
         for name in sorted(self.std - explained):
             fail(f"Notation doesn't explain {name}, a name of std")
         self.check_text(texts, explained)
@@ -321,24 +342,6 @@ def line_of(path, name):
     word = re.escape(re.split(r"::|\.", name)[-1])
     lines = module(path).lines
     return next((at for at, line in enumerate(lines, 1) if re.search(rf"\b(?:fn|struct|enum|trait|type|ghost|const|static) {word}\b", line)), 1)
-
-
-def all_definitions(shown):
-    """Where each of these names is defined: in the files that the pages have, and in any other file of specs/ that makes it visible."""
-    found = {name: set() for _, name in shown}
-    for path, name in shown:
-        found[name].add(path)
-    for file in CRATES.glob("*/specs/**/*.antt"):
-        path = str(file.relative_to(CRATES))
-        for name, (_, first, _) in module(path).spans.items():
-            if name in found and re.search(r"\bpub\b", module(path).lines[first]):
-                found[name].add(path)
-    return found
-
-
-def section(text, heading):
-    parts = re.split(rf"^## {heading}.*\n", text, maxsplit=1, flags=re.M)
-    return parts[1].split("\n## ")[0] if len(parts) > 1 else ""
 
 
 def fields_and_functions(texts):
