@@ -4,3 +4,4 @@ pub mod Heads
 pub mod VectorLemmas
 pub mod ListingLemmas
 pub mod PieceLemmas
+pub mod Certain
