@@ -5,3 +5,4 @@ pub mod VectorLemmas
 pub mod ListingLemmas
 pub mod PieceLemmas
 pub mod Certain
+pub mod CutText

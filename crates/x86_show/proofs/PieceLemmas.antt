@@ -19,7 +19,7 @@ module _ (strict : Bool) (laws : DecoderLaws strict) where
   some_bytes place [] p ps e = absurd (cc (none_left strict place [] refl, e))
   some_bytes place (x ∷ xs) p ps e = omega arith
 
-  next : (place : ℕ) (xs : List ℕ) → 0 < length xs → pieces_from strict place xs ≡ piece_at strict place xs ∷
+  pub next : (place : ℕ) (xs : List ℕ) → 0 < length xs → pieces_from strict place xs ≡ piece_at strict place xs ∷
       pieces_from strict (place + size strict xs) (drop (size strict xs) xs)
   next place xs some = first_and_rest strict (size strict xs) place xs refl (fit xs some).0 some
 

@@ -1,6 +1,6 @@
 //! What follows from the definitions of the pieces of a listing, and what is certain of a listing before a read.
 
-ghost use Rattle.std.specs.Prelude.{ℕ, Bool, List};
+ghost use Rattle.std.specs.Prelude.{ℕ, Bool, List, codes};
 ghost use Rattle.x86_cli.specs.Listings.Certain.{AwaitsMore, BeforeReads, KnowsAll, SentAllCertain};
 ghost use Rattle.x86_cli.specs.Listings.Performs.{Performs};
 ghost use Rattle.x86_show.specs.Certain.{LengthVaries};
@@ -27,10 +27,12 @@ pub fn pieces_join()
 /// Before each read of `show` the listing isn't decided, and what had been written was flushed. What is known of a text
 /// before a read, and what was written, is all that is certain: the listing of every text that goes on so begins with these
 /// lines, and with no more. So it is where a text that goes on so has a piece of another length at the first place at which
-/// more bytes may change the piece. Where only a lone byte can be there, `(bad)` is certain before the decoder's error is.
+/// more bytes may change the piece, as after `c5` (`holds`). Where only a lone byte can be there, `(bad)` is certain before
+/// the decoder's error is known.
 pub fn known_is_all<E, O: Input<E> + Output<E>>()
     ensures known { (base : ℕ) (bytes : List ℕ) → LengthVaries bytes
         → KnowsAll (showing base) bytes }
+    ensures holds { LengthVaries (codes "c5") }
     ensures awaits { (base : ℕ) (outcome : Finished) (s t : E)
         → (h : Performs O.reads O.writes O.flushes O.gathers (showing base) outcome s t)
         → BeforeReads (AwaitsMore (showing base)) h.calls }
