@@ -4,3 +4,5 @@ pub mod Heads
 pub mod VectorLemmas
 pub mod ListingLemmas
 pub mod PieceLemmas
+pub mod Certain
+pub mod CutText

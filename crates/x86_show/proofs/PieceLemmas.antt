@@ -8,23 +8,23 @@ use Rattle.x86_show.specs.Listing.{Piece, piece_length, is_open_by, piece_at, pi
 use Rattle.x86_show.specs.Pieces.{length_together, AreClosed, PiecesGoOn, PiecesOfMore, PiecesJoin}
 use Rattle.x86_show.proofs.ListingLemmas.{none_left, first_and_rest, piece_fits, piece_stays}
 
-abbrev size : Bool → List ℕ → ℕ
+abbrev pub size : Bool → List ℕ → ℕ
 size strict xs = piece_length (piece_at strict 0 xs)
 
 module _ (strict : Bool) (laws : DecoderLaws strict) where
-  fit : (xs : List ℕ) → 0 < length xs → (0 < size strict xs) × (size strict xs ≤ length xs)
+  pub fit : (xs : List ℕ) → 0 < length xs → (0 < size strict xs) × (size strict xs ≤ length xs)
   fit xs some = piece_fits strict laws xs some
 
-  some_bytes : (place : ℕ) (xs : List ℕ) (p : Piece) (ps : List Piece) → pieces_from strict place xs ≡ p ∷ ps → 0 < length xs
+  pub some_bytes : (place : ℕ) (xs : List ℕ) (p : Piece) (ps : List Piece) → pieces_from strict place xs ≡ p ∷ ps → 0 < length xs
   some_bytes place [] p ps e = absurd (cc (none_left strict place [] refl, e))
   some_bytes place (x ∷ xs) p ps e = omega arith
 
-  next : (place : ℕ) (xs : List ℕ) → 0 < length xs → pieces_from strict place xs ≡ piece_at strict place xs ∷
+  pub next : (place : ℕ) (xs : List ℕ) → 0 < length xs → pieces_from strict place xs ≡ piece_at strict place xs ∷
       pieces_from strict (place + size strict xs) (drop (size strict xs) xs)
   next place xs some = first_and_rest strict (size strict xs) place xs refl (fit xs some).0 some
 
   -- the first piece is the head of the list, and the rest its tail
-  divided : (place : ℕ) (xs : List ℕ) (p : Piece) (ps : List Piece) → pieces_from strict place xs ≡ p ∷ ps →
+  pub divided : (place : ℕ) (xs : List ℕ) (p : Piece) (ps : List Piece) → pieces_from strict place xs ≡ p ∷ ps →
       (piece_at strict place xs ≡ p) × (pieces_from strict (place + size strict xs) (drop (size strict xs) xs) ≡ ps)
   divided place xs p ps e =
       let both : piece_at strict place xs ∷ pieces_from strict (place + size strict xs) (drop (size strict xs) xs) ≡ p ∷ ps =

@@ -4,4 +4,5 @@ pub mod Vectors
 pub mod Lines
 pub mod Listing
 pub mod Pieces
+pub mod Certain
 pub mod Program

@@ -1,7 +1,7 @@
 //! VEX, EVEX and XOP encodings by their length alone.
 
-ghost use Rattle.std.specs.Prelude.{◌≡◌, ℕ, ◌+◌, ◌≤◌, IfSome, length, take};
-ghost use Rattle.x86_show.specs.Vectors.{precedes, sib_bytes, bytes_from_modrm, immediate_bytes, with_address, after_head, after_c5, third, after_c4, after_8f, fourth, third_of_62, after_62, at_lead, one_longer, after_prefixes, fitting, vector_of, once_ended};
+ghost use Rattle.std.specs.Prelude.{◌≡◌, ◌+◌, ◌≤◌, length, take, drop};
+ghost use Rattle.x86_show.specs.Vectors.{precedes, fewest, longer, sib_bytes, bytes_from_modrm, immediate_bytes, after_head, after_c5, after_c4, after_8f, third_of_62, after_62, at_lead, after_prefixes, fitting, vector_of, once_ended};
 
 use x86_fields::{ModRM, displacement_width};
 
@@ -16,6 +16,17 @@ pub enum Vector {
     Whole(usize),
 }
 
+/// How many bytes an encoding has, or a part of one.
+#[derive(Clone, Copy, Drop)]
+enum Extent {
+    /// It is none.
+    Empty,
+    /// At least so many: bytes to come decide it.
+    AtLeast(usize),
+    /// So many.
+    Exactly(usize),
+}
+
 /// Whether a byte may precede such an encoding.
 fn precedes(byte: u8) -> bool
     ensures { result ≡ precedes byte }
@@ -23,26 +34,39 @@ fn precedes(byte: u8) -> bool
     matches!(byte, 0x67 | 0x2e | 0x36 | 0x3e | 0x26 | 0x64 | 0x65)
 }
 
-fn sib_bytes(modrm: u8, bytes: &[u8]) -> Option<usize>
+/// So many bytes, and then a part.
+fn longer(n: usize, part: Extent) -> Extent
+    requires { n + fewest part ≤ 1000 }
+    ensures value { result ≡ longer n part }
+    ensures few { fewest result ≤ n + fewest part }
+{
+    match part {
+        Extent::Empty => Extent::Empty,
+        Extent::AtLeast(m) => Extent::AtLeast(n + m),
+        Extent::Exactly(m) => Extent::Exactly(n + m),
+    }
+}
+
+fn sib_bytes(modrm: u8, bytes: &[u8]) -> Extent
     ensures value { result ≡ sib_bytes modrm bytes.now }
-    ensures few { IfSome result (λ n. n ≤ 6) }
+    ensures few { fewest result ≤ 6 }
 {
     match bytes {
-        [] => None,
-        [sib, ..] => Some(2 + usize::from(displacement_width(modrm, Some(*sib)))),
+        [] => Extent::AtLeast(2 + usize::from(displacement_width(modrm, Some(0)))),
+        [sib, ..] => Extent::Exactly(2 + usize::from(displacement_width(modrm, Some(*sib)))),
     }
 }
 
 /// How many bytes ModRM, SIB and displacement have.
-fn bytes_from_modrm(bytes: &[u8]) -> Option<usize>
+fn bytes_from_modrm(bytes: &[u8]) -> Extent
     ensures value { result ≡ bytes_from_modrm bytes.now }
-    ensures few { IfSome result (λ n. n ≤ 6) }
+    ensures few { fewest result ≤ 6 }
 {
     match bytes {
-        [] => None,
-        [modrm, ..] if !ModRM::new(*modrm).is_memory() => Some(1),
+        [] => Extent::AtLeast(1),
+        [modrm, ..] if !ModRM::new(*modrm).is_memory() => Extent::Exactly(1),
         [modrm, rest @ ..] if ModRM::new(*modrm).rm_field() == 4 => sib_bytes(*modrm, rest),
-        [modrm, ..] => Some(1 + usize::from(displacement_width(*modrm, None))),
+        [modrm, ..] => Extent::Exactly(1 + usize::from(displacement_width(*modrm, None))),
     }
 }
 
@@ -63,157 +87,122 @@ fn immediate_bytes(map: u8, opcode: u8) -> usize
     }
 }
 
-fn with_address(n: usize, width: Option<usize>) -> Vector
-    requires most { n ≤ 9 }
-    requires few { IfSome width (λ n. n ≤ 6) }
-    ensures value { result ≡ with_address n width }
-    ensures short { (m : ℕ) → result ≡ Vector.Whole m → m ≤ 15 }
-{
-    match width {
-        None => Vector::Cut,
-        Some(width) => Vector::Whole(n + width),
-    }
-}
-
 /// What so many bytes of a head begin, which the opcode byte of a map follows.
-fn after_head(n: usize, map: u8, vex: bool, bytes: &[u8]) -> Vector
+fn after_head(n: usize, map: u8, vex: bool, bytes: &[u8]) -> Extent
     requires { n ≤ 4 }
     ensures value { result ≡ after_head n map vex bytes.now }
-    ensures short { (m : ℕ) → result ≡ Vector.Whole m → m ≤ 15 }
+    ensures few { fewest result ≤ 15 }
 {
     match bytes {
-        [] => Vector::Cut,
-        [0x77, ..] if vex && map == 1 => Vector::Whole(n + 1),
-        [opcode, rest @ ..] => with_address(
+        [] if vex && map == 1 => Extent::AtLeast(n + 1),
+        [] => Extent::AtLeast(n + 2 + immediate_bytes(map, 0)),
+        [0x77, ..] if vex && map == 1 => Extent::Exactly(n + 1),
+        [opcode, rest @ ..] => longer(
             n + 1 + immediate_bytes(map, *opcode),
             bytes_from_modrm(rest),
         ),
     }
 }
 
-fn after_c5(bytes: &[u8]) -> Vector
+fn without_first(bytes: &[u8]) -> &[u8]
+    ensures { result.now ≡ drop 1 bytes.now }
+{
+    match bytes {
+        [] => bytes,
+        [_, rest @ ..] => rest,
+    }
+}
+
+fn after_c5(bytes: &[u8]) -> Extent
     ensures value { result ≡ after_c5 bytes.now }
-    ensures short { (m : ℕ) → result ≡ Vector.Whole m → m ≤ 15 }
+    ensures few { fewest result ≤ 15 }
 {
-    match bytes {
-        [] => Vector::Cut,
-        [_, rest @ ..] => after_head(2, 1, true, rest),
-    }
+    after_head(2, 1, true, without_first(bytes))
 }
 
-fn third(map: u8, vex: bool, bytes: &[u8]) -> Vector
-    ensures value { result ≡ third map vex bytes.now }
-    ensures short { (m : ℕ) → result ≡ Vector.Whole m → m ≤ 15 }
-{
-    match bytes {
-        [] => Vector::Cut,
-        [_, rest @ ..] => after_head(3, map, vex, rest),
-    }
-}
-
-fn after_c4(bytes: &[u8]) -> Vector
+fn after_c4(bytes: &[u8]) -> Extent
     ensures value { result ≡ after_c4 bytes.now }
-    ensures short { (m : ℕ) → result ≡ Vector.Whole m → m ≤ 15 }
+    ensures few { fewest result ≤ 15 }
 {
     match bytes {
-        [] => Vector::Cut,
-        [a, rest @ ..] if matches!(*a % 32, 1 | 2 | 3) => third(*a % 32, true, rest),
-        _ => Vector::Absent,
+        [] => Extent::AtLeast(4),
+        [a, rest @ ..] if matches!(*a % 32, 1 | 2 | 3) => {
+            after_head(3, *a % 32, true, without_first(rest))
+        }
+        _ => Extent::Empty,
     }
 }
 
-fn after_8f(bytes: &[u8]) -> Vector
+fn after_8f(bytes: &[u8]) -> Extent
     ensures value { result ≡ after_8f bytes.now }
-    ensures short { (m : ℕ) → result ≡ Vector.Whole m → m ≤ 15 }
+    ensures few { fewest result ≤ 15 }
 {
     match bytes {
-        [] => Vector::Cut,
-        [a, rest @ ..] if matches!(*a % 32, 8 | 9 | 10) => third(*a % 32, false, rest),
-        _ => Vector::Absent,
+        [] => Extent::AtLeast(5),
+        [a, rest @ ..] if matches!(*a % 32, 8 | 9 | 10) => {
+            after_head(3, *a % 32, false, without_first(rest))
+        }
+        _ => Extent::Empty,
     }
 }
 
-fn fourth(map: u8, bytes: &[u8]) -> Vector
-    ensures value { result ≡ fourth map bytes.now }
-    ensures short { (m : ℕ) → result ≡ Vector.Whole m → m ≤ 15 }
-{
-    match bytes {
-        [] => Vector::Cut,
-        [_, rest @ ..] => after_head(4, map, false, rest),
-    }
-}
-
-fn third_of_62(map: u8, bytes: &[u8]) -> Vector
+fn third_of_62(map: u8, bytes: &[u8]) -> Extent
     ensures value { result ≡ third_of_62 map bytes.now }
-    ensures short { (m : ℕ) → result ≡ Vector.Whole m → m ≤ 15 }
+    ensures few { fewest result ≤ 15 }
 {
     match bytes {
-        [] => Vector::Cut,
-        [b, rest @ ..] if *b / 4 % 2 == 1 => fourth(map, rest),
-        _ => Vector::Absent,
+        [] => after_head(4, map, false, bytes),
+        [b, rest @ ..] if *b / 4 % 2 == 1 => after_head(4, map, false, without_first(rest)),
+        _ => Extent::Empty,
     }
 }
 
-fn after_62(bytes: &[u8]) -> Vector
+fn after_62(bytes: &[u8]) -> Extent
     ensures value { result ≡ after_62 bytes.now }
-    ensures short { (m : ℕ) → result ≡ Vector.Whole m → m ≤ 15 }
+    ensures few { fewest result ≤ 15 }
 {
     match bytes {
-        [] => Vector::Cut,
+        [] => Extent::AtLeast(6),
         [a, rest @ ..] if matches!(*a % 16, 1 | 2 | 3 | 5 | 6) => third_of_62(*a % 16, rest),
-        _ => Vector::Absent,
+        _ => Extent::Empty,
     }
 }
 
-fn at_lead(byte: u8, rest: &[u8]) -> Vector
+fn at_lead(byte: u8, rest: &[u8]) -> Extent
     ensures value { result ≡ at_lead byte rest.now }
-    ensures short { (m : ℕ) → result ≡ Vector.Whole m → m ≤ 15 }
+    ensures few { fewest result ≤ 15 }
 {
     match byte {
         0xc5 => after_c5(rest),
         0xc4 => after_c4(rest),
         0x62 => after_62(rest),
         0x8f => after_8f(rest),
-        _ => Vector::Absent,
-    }
-}
-
-fn one_longer(vector: Vector, most: usize) -> Vector
-    requires long { (m : ℕ) → vector ≡ Vector.Whole m → m ≤ most }
-    requires few { most ≤ 1000 }
-    ensures value { result ≡ one_longer vector }
-    ensures short { (m : ℕ) → result ≡ Vector.Whole m → m ≤ most + 1 }
-{
-    match vector {
-        Vector::Whole(n) => Vector::Whole(n + 1),
-        other => other,
+        _ => Extent::Empty,
     }
 }
 
 /// What bytes begin with, however long it is.
 #[tactic(auto, unfolding(crate::specs::Vectors::after_prefixes))]
-fn after_prefixes(bytes: &[u8]) -> Vector
+fn after_prefixes(bytes: &[u8]) -> Extent
     requires { length bytes.now ≤ 15 }
     ensures value { result ≡ after_prefixes bytes.now }
-    ensures short { (m : ℕ) → result ≡ Vector.Whole m → m ≤ 15 + length bytes.now }
+    ensures few { fewest result ≤ 15 + length bytes.now }
 {
     match bytes {
-        [] => Vector::Cut,
-        [byte, rest @ ..] if precedes(*byte) => {
-            one_longer(after_prefixes(rest), 15 + rest.len())
-        }
+        [] => Extent::AtLeast(3),
+        [byte, rest @ ..] if precedes(*byte) => longer(1, after_prefixes(rest)),
         [byte, rest @ ..] => at_lead(*byte, rest),
     }
 }
 
-fn fitting(there: usize, vector: Vector) -> Vector
-    ensures { result ≡ fitting there vector }
+fn fitting(there: usize, extent: Extent) -> Vector
+    ensures { result ≡ fitting there extent }
 {
-    match vector {
-        Vector::Whole(n) if n > 15 => Vector::Absent,
-        Vector::Whole(n) if n > there => Vector::Cut,
-        Vector::Cut if there >= 15 => Vector::Absent,
-        other => other,
+    match extent {
+        Extent::AtLeast(n) if there < 15 && n <= 15 => Vector::Cut,
+        Extent::Exactly(n) if n <= 15 && n <= there => Vector::Whole(n),
+        Extent::Exactly(n) if n <= 15 => Vector::Cut,
+        _ => Vector::Absent,
     }
 }
 
