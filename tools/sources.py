@@ -122,7 +122,7 @@ class Module:
         return False
 
     def find_definitions(self):
-        """The first and the last line of each definition, with the comment above it and the module that it is in."""
+        """The first line of each definition, and the one after its last."""
         spans = {}
         for number, line in enumerate(self.lines):
             head = HEAD.match(line)
@@ -133,16 +133,13 @@ class Module:
             end = number + 1
             while end < len(self.lines) and self.lines[end].strip() and self.continues(head, end):
                 end += 1
-            start = number
-            while start and self.lines[start - 1].lstrip().startswith("--") and not self.lines[start - 1].lstrip().startswith("-- ----"):
-                start -= 1
-            spans[head[3]] = (start, number, end)
+            spans[head[3]] = (number, end)
         return spans
 
     def find_cases(self):
         """The data that each case is of."""
         found = {}
-        for name, (_, first, end) in self.spans.items():
+        for name, (first, end) in self.spans.items():
             if re.search(r"\bdata ", self.lines[first]):
                 found |= {match[1]: name for line in self.lines[first + 1 : end] if (match := re.match(r" *(\w+) : ", line))}
         return found
@@ -155,25 +152,20 @@ class Module:
         return indent(line) > len(head[1]) or line.strip() == "}" or re.match(rf" *(?:unfolding|{re.escape(head[3])})(?![\w\-'])", line)
 
     def heads_above(self, number):
-        """The heads of the modules that a line is in, the outermost first, each with the comment above it."""
+        """The heads of the modules that a line is in, the outermost first."""
         depth, found = indent(self.lines[number]), []
         for at in range(number - 1, -1, -1):
             if self.lines[at].strip() and not self.lines[at].lstrip().startswith("--") and indent(self.lines[at]) < depth:
                 depth = indent(self.lines[at])
-                start, end = at, at + 1
-                if self.lines[start].lstrip().startswith("module _"):
-                    while not self.lines[end - 1].endswith(" where"):
-                        end += 1
-                    while start and self.lines[start - 1].lstrip().startswith("-- ") and not self.lines[start - 1].lstrip().startswith("-- ----"):
-                        start -= 1
-                    found.append(self.lines[start:end])
-        return list(reversed(found))
+                if self.lines[at].lstrip().startswith("module _"):
+                    end = next(end for end in range(at, number) if self.lines[end].endswith(" where"))
+                    found.insert(0, self.lines[at : end + 1])
+        return found
 
     def text(self, name):
         if name not in self.spans:
             raise Missing(f"{self.path} doesn't define {name}")
-        start, _, end = self.spans[name]
-        return self.lines[start:end]
+        return self.lines[slice(*self.spans[name])]
 
 
 @functools.cache
@@ -244,11 +236,10 @@ def uses(path, name):
     file = module(path)
     lines = [re.sub(r"(^|\s)--.*", r"\1", line) for line in file.text(name)]
     variables = bound(path, lines, name) | {name}
-    for head in file.heads_above(file.spans[name][1]):
-        arguments = [line for line in head if not line.lstrip().startswith("--")]
-        for names in BINDER.findall("\n".join(arguments)):
+    for head in file.heads_above(file.spans[name][0]):
+        for names in BINDER.findall("\n".join(head)):
             variables |= set(names.split())
-        lines += arguments
+        lines += head
     text = re.sub(r'"[^"]*"', "", "\n".join(lines))
     text = re.sub(r"(?<=[{;])\s*(\w+) = ", " ", text)
     found = []

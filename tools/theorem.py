@@ -39,22 +39,16 @@ def fail(message):
     sys.exit(f"theorem: {message}")
 
 
-def without_comments(lines):
-    """The lines without the comments above a definition. Those of a record's fields stay."""
-    kept = next(at for at, line in enumerate(lines) if not line.lstrip().startswith("--"))
-    return lines[kept:]
-
-
 def block(path, names):
-    """The definitions without the comments above them, with the heads of the modules that they are in."""
+    """The definitions, with the heads of the modules that they are in."""
     file, out, inside = module(path), [], []
     for name in names:
-        above = file.heads_above(file.spans[name][1])
+        above = file.heads_above(file.spans[name][0])
         for head in above:
             if head not in inside:
-                out += without_comments(head)
+                out += head
         inside = above
-        out += without_comments(file.text(name))
+        out += file.text(name)
     return out
 
 
@@ -120,7 +114,7 @@ def homes():
     found = {}
     for file in sorted(CRATES.glob("*/specs/**/*.antt")):
         of = module(str(file.relative_to(CRATES)))
-        for name in (name for name, (_, first, _) in of.spans.items() if re.search(r"\bpub\b", of.lines[first])):
+        for name in (name for name, (first, _) in of.spans.items() if re.search(r"\bpub\b", of.lines[first])):
             found.setdefault(name, []).append(of.path)
     return found
 
@@ -133,7 +127,7 @@ def function_files(name, clauses):
 
 def shown_in(lines):
     """What begins in a block of code: a file with the names of definitions, or with a function and its clauses."""
-    parts, firsts = [], {first: name for name, (_, first, _) in Module("", lines).spans.items()}
+    parts, firsts = [], {first: name for name, (first, _) in Module("", lines).spans.items()}
     for at, line in enumerate(lines):
         function = re.match(r"pub fn (\w+)", line)
         name = function[1] if function else firsts.get(at)
@@ -246,7 +240,7 @@ class Pages:
                 if path not in self.used:
                     fail(f"{name} is neither shown nor linked: {path}, used by {users.get(key, 'a clause')}")
                 self.used[path].add(name)
-            if re.match(r" *(pub )?record ", module(path).lines[module(path).spans[name][1]]):
+            if re.match(r" *(pub )?record ", module(path).text(name)[0]):
                 self.fields |= {match[1] for line in module(path).text(name) if (match := re.match(r" +(?:pub )?(\w+) : ", line))}
             for other in (found := self.note(uses(path, name))):
                 users.setdefault(other, name)
@@ -338,7 +332,7 @@ class Pages:
 def line_of(path, name):
     """The line of a file where a name is defined: a definition of specs/, a type, a function, or a member of a trait."""
     if path.endswith(".antt") and (found := module(path).spans.get(name)):
-        return found[1] + 1
+        return found[0] + 1
     word = re.escape(re.split(r"::|\.", name)[-1])
     lines = module(path).lines
     return next((at for at, line in enumerate(lines, 1) if re.search(rf"\b(?:fn|struct|enum|trait|type|ghost|const|static) {word}\b", line)), 1)
