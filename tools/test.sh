@@ -8,7 +8,7 @@ skip() {
 # has TOOL WHAT: whether a tool is there. Where it isn't, its package is named, and what is skipped for want of it.
 has() {
     command -v "$1" >/dev/null && return
-    package=$(sed -n "s/^$1 //p" "$top/tools/packages")
+    package=$(awk -v tool="$1" '$1 == tool { print $2 }' "$top/tools/packages")
     skip "${package:+the package }${package:-$1} is missing: $2"
     false
 }

@@ -6,9 +6,9 @@
 
 The pages are edited in place. Each block of code in THEOREM.md is of the definitions and functions that begin in it: the script writes them as they are
 in the sources, of a law with all clauses, of another function with those that are there. So a new one is added by its first line. In DEFINITIONS.md it
-writes the names in the lines `- [FILE](..): ..`, which are those of the file that a definition of the pages uses or a text names, and that THEOREM.md
-doesn't show; a name that is new there is put into the last line of its file. `LAW.CLAUSE` is a law of which one clause counts. The rows of **Linked** have the names that aren't shown, or `all` of a file.
-The index has where each name of both pages is.
+writes the names in the lines `- [FILE](..): ..`: those of the file that a definition of the pages uses or a text names, and that THEOREM.md doesn't
+show. A name that is new there is put into the last line of its file. `LAW.CLAUSE` is a law of which one clause counts. The rows of **Linked** have the
+names that aren't shown, or `all` of a file. The index has where each name of both pages is.
 
 A name that a definition or a clause uses must be shown, linked, or explained in Notation, and has one definition; a name in
 the text of a page must be one of these too. A field that is shown has the name of a definition only where Notation says so.
