@@ -57,6 +57,8 @@ def cell(rows, first, memory, reg, numbers):
         if {"Memory": memory, "Register": not memory}.get(row.place, True) and row.is_at(reg) and may_be_named(row, reg):
             if not row.is_sure() or row.names == "Own":
                 break
+            if row.names[0] == "by_rm":
+                return f"cell!({first + at} 0)", "by rm"
             name = row.names[1] if row.names[0] == "Name" else row.names[1 + reg]
             return f"cell!({first + at} {numbers[name]})", name
     return "cell!(0 0)", "-"

@@ -100,8 +100,7 @@ class Row:
     def is_sure(self):
         """Whether the row is read at once wherever its place, reg and names are."""
         read = self.error is None and self.names is not None and self.change is None
-        by_rm = isinstance(self.names, list) and self.names[0] == "by_rm"
-        return read and self.when == "Always" and self.rm == "Any" and not by_rm and Template(self.operands).is_plain()
+        return read and self.when == "Always" and self.rm == "Any" and Template(self.operands).is_plain()
 
     def opcodes(self):
         """The opcodes that the row names."""

@@ -38,7 +38,7 @@ fn read_modrm<T: Reader<u64, u8>>(after: After, reader: &mut T) -> Result<ModRM,
         IfOk result (λ modrm. is_memory modrm ≡ false) }
 {
     match after {
-        After::Nothing => Ok(ModRM::absent()),
+        After::Nothing | After::Search => Ok(ModRM::absent()),
         _ => Ok(ModRM::new(reader.next()?)),
     }
 }

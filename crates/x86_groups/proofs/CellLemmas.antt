@@ -15,13 +15,14 @@ use Rattle.x86_forms.specs.Words.{carried}
 use Rattle.x86_operands.specs.declared.rows.Place.{Place}
 use Rattle.x86_operands.specs.declared.rows.TemplateRow.{TemplateRow}
 use Rattle.x86_operands.specs.declared.rows.Names.TheVariants.{Name, ByReg, Own}
-use Rattle.x86_operands.specs.Columns.{choose, is_placed, name_at, named, opcode_of, plan_of_row}
+use Rattle.x86_operands.specs.Columns.{choose, is_named, is_placed, name_at, named, opcode_of, plan_of_row}
 use Rattle.x86_operands.specs.Forms.{is_searched}
 use Rattle.x86_operands.specs.Templates.{is_read_at, template_plan}
-use Rattle.x86_operands.proofs.SureLemmas.{after, by_no_rm, chosen, has_free_sizes, is_read, is_sure, may_be, not_by_rm, placed_by, plan_is, sizes_by, sure_at}
+use Rattle.x86_operands.proofs.SureLemmas.{after, chosen, has_free_sizes, is_read, is_sure, may_be, placed_by, plan_is, sizes_by, sure_at}
 use Rattle.x86_groups.specs.declared.cells.Cell.{Cell}
 use Rattle.x86_groups.specs.declared.tables.TheConstants.{CELLS, CELLS_AT, ROWS, SPANS}
 use Rattle.x86_groups.specs.Groups.{group_plan, group_record, record_of}
+use Rattle.x86_groups.specs.Heads.{operation_number}
 use Rattle.x86_groups.specs.Rows.{group_rows}
 use Rattle.x86_groups.proofs.HeadLemmas.{span_at}
 
@@ -36,6 +37,7 @@ rows_of f = take ((span_of f).1 - (span_of f).0) (drop (span_of f).0 ROWS.now)
 abbrev first_of : Form → ℕ
 first_of f = (span_of f).0
 
+-- the number of a cell: 0 where rm names the operation
 abbrev number_at : Names → ℕ → ℕ
 number_at (Name n) k = n
 number_at (ByReg names) k = name_at names k
@@ -146,9 +148,13 @@ cell_is f k memory z d is low =
 or_true : (a b : Bool) → (not a || b) ≡ true → a ≡ true → b ≡ true
 or_true a b h e = grind arith
 
-named_by : (names : Names) (own : TableRow) (m : ℕ) → is_named_row names ≡ true → not_by_rm names ≡ true →
-    opcode_of names own m ≡ named (number_at names (reg_field m))
-named_by names own m h e = grind arith
+named_by : (names : Names) (own : TableRow) (m : ℕ) → is_named_row names ≡ true →
+    opcode_of names own m ≡ named (operation_number (number_at names (reg_field m)) names m)
+named_by names own m h = grind arith
+
+has_name : (names : Names) (m : ℕ) → is_named_row names ≡ true → (operation_number (number_at names (reg_field m)) names m == 0) ≡ false →
+    is_named names m ≡ true
+has_name names m h e = grind arith
 
 no_bare : (place : Place) (m : ℕ) → has_modrm place ≡ true → place ≡ Place.Bare → is_memory m ≡ false
 no_bare place m h e = absurd (grind (arith, e))
@@ -172,52 +178,54 @@ module _ (found : WordRow) (m : ℕ) (group : is_group found.row.form ≡ true) 
   celled : is_celled f ≡ true
   celled = rw (group, searched) refl
 
+  -- a row of this number, if it has an operation
+  abbrev SureRowOf : ℕ → TemplateRow → Type 0
+  SureRowOf number row = (operation_number number row.names m == 0) ≡ false →
+      (is_read_at row.template m ≡ true)
+      × ((strict : Bool) (p : Prefixes) → template_plan row.template found.number (named (operation_number number row.names m)) p m ≡
+      group_plan found.row p m strict)
+
   from_sure : (k n : ℕ) (d : TemplateRow) → sure_at (rows_of f) (is_memory m) (reg_field m) ≡ k → k ≡ suc n →
-      (is_read_at (get_or ROWS.now (first_of f + n) d).template m ≡ true)
-      × ((strict : Bool) (p : Prefixes) → template_plan (get_or ROWS.now (first_of f + n) d).template found.number
-      (named (number_in (rows_of f) n (reg_field m))) p m ≡ group_plan found.row p m strict)
+      SureRowOf (number_in (rows_of f) n (reg_field m)) (get_or ROWS.now (first_of f + n) d)
   unfolding group_plan
   from_sure k n d e is =
       let at = is_at m d (rows_of f) n (e ∙ is) in
       let row : TemplateRow = get_or (rows_of f) n d in
+      let number = number_in (rows_of f) n (reg_field m) in
       let fits : fits_cell row ≡ true = or_true (is_sure row) (fits_cell row)
       (All-get_or (λ row. may_fit row ≡ true) (rows_of f) n d at.inside
       (AllPass-from_list_all may_fit (rows_of f) (or_true (is_celled f) _ (rows_fit f) celled))) at.sure in
       let parts = and_parts (is_named_row row.names && has_modrm row.at.place) _ fits in
       let named_parts = and_parts (is_named_row row.names) (has_modrm row.at.place) parts.0 in
       let free = and_parts (has_free_sizes row.template) (not row.template.of_opcode) parts.1 in
-      subst (λ row. (is_read_at row.template m ≡ true)
-      × ((strict : Bool) (p : Prefixes) → template_plan row.template found.number
-      (named (number_in (rows_of f) n (reg_field m))) p m ≡ plan_of_row (choose (group_rows f) found.row strict p m) found.row p m))
-      (in_table f n d at.inside) (
+      subst (SureRowOf number) (in_table f n d at.inside) (λ some.
+      let name = has_name row.names m named_parts.0 (subst (λ k. (operation_number k row.names m == 0) ≡ false) at.number some) in (
         is_read row m at.sure at.placed (no_bare row.at.place m named_parts.1),
         λ strict p.
-            plan_is row found.row found.number (named (number_in (rows_of f) n (reg_field m))) p m at.sure
-            (named_by row.names found.row m named_parts.0 (by_no_rm row at.sure) ∙ ap named (sym at.number))
+            plan_is row found.row found.number (named (operation_number number row.names m)) p m at.sure
+            (named_by row.names found.row m named_parts.0 ∙ ap (λ k. named (operation_number k row.names m)) (sym at.number))
             (no_number row.template.of_opcode found.number (carried f) free.1)
-            (sizes_by row.template m (named (number_in (rows_of f) n (reg_field m))) found.row.opcode p free.0)
+            (sizes_by row.template m (named (operation_number number row.names m)) found.row.opcode p free.0)
             ∙ ap (λ first. plan_of_row first found.row p m)
-            (sym (chosen found.row strict p m (rows_of f) n d (e ∙ is)) ∙ ap (λ rows. choose rows found.row strict p m) (span_at f (0, 0)).rows),
-      )
+            (sym (chosen found.row strict p m (rows_of f) n d (e ∙ is) name) ∙ ap (λ rows. choose rows found.row strict p m) (span_at f (0, 0)).rows),
+      ))
 
   abbrev SureCell : Cell → TemplateRow → Type 0
-  SureCell cell d = (cell.row == 0) ≡ false →
-      (is_read_at (get_or ROWS.now cell.row d).template m ≡ true)
-      × ((strict : Bool) (p : Prefixes) → template_plan (get_or ROWS.now cell.row d).template found.number
-      (named cell.number) p m ≡ group_plan found.row p m strict)
+  SureCell cell d = SureRowOf cell.number (get_or ROWS.now cell.row d)
 
   from_cell : (k : ℕ) (d : TemplateRow) → sure_at (rows_of f) (is_memory m) (reg_field m) ≡ k → SureCell (cell_from (rows_of f) (first_of f) (reg_field m) k) d
   from_cell zero d e h = absurd (true≢false h)
-  from_cell (suc n) d e h = from_sure (suc n) n d e refl
+  from_cell (suc n) d e h = from_sure (suc n) n d e refl h
 
   plan_same : (strict : Bool) (p : Prefixes) → group_plan found.row p m strict ≡ (record_of strict found.row p).plan m
   unfolding group_record
   plan_same strict p = rw group refl
 
-  pub cell_is_sure : (cell : Cell) (d : TemplateRow) → cell ≡ cell_by (rows_of f) (first_of f) (is_memory m) (reg_field m) → (cell.row == 0) ≡ false →
+  pub cell_is_sure : (cell : Cell) (d : TemplateRow) → cell ≡ cell_by (rows_of f) (first_of f) (is_memory m) (reg_field m) →
+      (operation_number cell.number (get_or ROWS.now cell.row d).names m == 0) ≡ false →
       (is_read_at (get_or ROWS.now cell.row d).template m ≡ true)
-      × ((strict : Bool) (p : Prefixes) → template_plan (get_or ROWS.now cell.row d).template found.number (named cell.number) p m ≡
-      (record_of strict found.row p).plan m)
+      × ((strict : Bool) (p : Prefixes) → template_plan (get_or ROWS.now cell.row d).template found.number
+      (named (operation_number cell.number (get_or ROWS.now cell.row d).names m)) p m ≡ (record_of strict found.row p).plan m)
   cell_is_sure cell d e h =
       let both = subst (λ cell. SureCell cell d) (sym e) (from_cell (sure_at (rows_of f) (is_memory m) (reg_field m)) d refl) h in
       (both.0, λ strict p. both.1 strict p ∙ plan_same strict p)

@@ -1,8 +1,10 @@
 -- How a row goes on after its opcode byte, and a row that is read at once at a ModRM byte.
-use Rattle.std.specs.Prelude.{ℕ, Bool, true, None, ◌≡◌, ⊤}
-use Rattle.x86_groups.specs.Vocabulary.{After, EitherForm, Prefixes}
+use Rattle.std.specs.Prelude.{ℕ, Bool, true, None, ◌≡◌, ◌==◌, if◌then◌else◌, ⊤}
+use Rattle.x86_groups.specs.Vocabulary.{After, EitherForm, Names, Prefixes, rm_field}
 use Rattle.x86_groups.specs.declared.rows.SureRow.{SureRow}
 use Rattle.x86_operands.specs.declared.plans.ModrmUse.TheVariants.{Absent}
+use Rattle.x86_operands.specs.declared.rows.Names.TheVariants.{ByRm}
+use Rattle.x86_operands.specs.Columns.{name_at}
 use Rattle.x86_forms.specs.declared.words.WordRow.{WordRow}
 use Rattle.x86_operands.specs.Plans.{RowRecord}
 use Rattle.x86_operands.specs.Templates.{is_read_at, template_plan}
@@ -13,6 +15,14 @@ abbrev pub Continues : After → RowRecord → Type 0
 Continues After.Search r = ⊤
 Continues After.Nothing r = (r.at_opcode ≡ None) × (r.modrm ≡ Absent)
 Continues after r = (r.at_opcode ≡ None) × (r.modrm ≡ EitherForm)
+
+abbrev number_by_rm : Names → ℕ → ℕ
+number_by_rm (ByRm names) m = name_at names (rm_field m)
+number_by_rm names m = 0
+
+-- The number of a row's operation at a ModRM byte: that of its cell, and where this is 0 the one that rm names.
+abbrev pub operation_number : ℕ → Names → ℕ → ℕ
+operation_number number names m = if number == 0 then number_by_rm names m else number
 
 -- Its template says the plan of the word's row at this ModRM byte.
 pub record IsSure (found : WordRow) (m : ℕ) (u : SureRow) : Type 0 where

@@ -4,16 +4,17 @@ ghost use Rattle.std.specs.Prelude.{◌≡◌, ◌<◌, ◌+◌, if◌then◌els
 ghost use Rattle.x86_fields.specs.ModRM.{is_memory, reg_field};
 ghost use Rattle.x86_forms.specs.Groups.{is_group};
 ghost use Rattle.x86_operands.specs.Forms.{is_searched};
-ghost use Rattle.x86_groups.specs.Heads.{IsSure};
+ghost use Rattle.x86_groups.specs.Heads.{IsSure, operation_number};
 
 use crate::rows::SureRow;
 use crate::tables::{CELLS, CELLS_AT, ROWS};
 use x86_fields::ModRM;
 use x86_forms::WordRow;
 use x86_opcodes::Opcode;
+use x86_operands::rows::{Names, TemplateRow};
 
-/// What mod and reg choose in a group: the row of the table, and the number of its operation. Where they choose none alone,
-/// the row is the first, which no group has.
+/// What mod and reg choose in a group: the row of the table, and the number of its operation, which is 0 where rm names it.
+/// Where they choose none alone, the row is the first, which names none.
 #[derive(Clone, Copy, Drop)]
 pub struct Cell {
     pub row: u8,
@@ -32,6 +33,22 @@ macro_rules! cell {
 
 pub(crate) use cell;
 
+impl Cell {
+    /// The number of the operation of the cell's row at a ModRM byte, and 0 where the row has none there.
+    #[inline(always)]
+    fn operation_number(&self, row: &TemplateRow, modrm: ModRM) -> u16
+        ensures { result ≡ operation_number self.now.number row.now.names modrm }
+    {
+        if self.number != 0 {
+            return self.number;
+        }
+        match row.names {
+            Names::ByRm(names) => names[modrm.rm_field() as usize],
+            _ => 0,
+        }
+    }
+}
+
 /// Where the cell of a ModRM byte is: those of the memory forms come first, by reg.
 #[inline(always)]
 fn cell_index(modrm: ModRM) -> usize
@@ -46,7 +63,8 @@ fn cell_index(modrm: ModRM) -> usize
     reg + 8
 }
 
-/// The operation and the operands of a group's row at a ModRM byte, where mod and reg alone choose it.
+/// The operation and the operands of a group's row at a ModRM byte, where mod and reg alone choose the row, and it has an
+/// operation there.
 #[inline(always)]
 pub(crate) fn cell_row(found: &WordRow, modrm: ModRM) -> Option<SureRow<'static>>
     requires group { is_group found.now.row.form ≡ true }
@@ -55,11 +73,13 @@ pub(crate) fn cell_row(found: &WordRow, modrm: ModRM) -> Option<SureRow<'static>
 {
     let group = CELLS_AT[found.form_number];
     let cell = &CELLS[group as usize][cell_index(modrm)];
-    if cell.row == 0 {
+    let row = &ROWS[cell.row as usize];
+    let number = cell.operation_number(row, modrm);
+    if number == 0 {
         return None;
     }
     Some(SureRow {
-        opcode: Opcode::from_number(cell.number as u64).unwrap_or(Opcode::Invalid),
-        template: &ROWS[cell.row as usize].template,
+        opcode: Opcode::from_number(number as u64).unwrap_or(Opcode::Invalid),
+        template: &row.template,
     })
 }

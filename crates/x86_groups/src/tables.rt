@@ -930,10 +930,10 @@ pub(crate) const CELLS: &[[Cell; 16]; 48] = &[
         cell!(26 539), // FXCH
         cell!(0 0), // -
         cell!(28 527), // FSTPNCE
-        cell!(0 0), // -
-        cell!(0 0), // -
-        cell!(0 0), // -
-        cell!(0 0), // -
+        cell!(29 0), // by rm
+        cell!(30 0), // by rm
+        cell!(31 0), // by rm
+        cell!(32 0), // by rm
     ], // d9
     [
         cell!(34 482), // FIADD
@@ -966,7 +966,7 @@ pub(crate) const CELLS: &[[Cell; 16]; 48] = &[
         cell!(42 464), // FCMOVNE
         cell!(42 463), // FCMOVNBE
         cell!(42 465), // FCMOVNU
-        cell!(0 0), // -
+        cell!(43 0), // by rm
         cell!(42 534), // FUCOMI
         cell!(42 468), // FCOMI
         cell!(0 0), // -
@@ -1149,7 +1149,7 @@ pub(crate) const CELLS: &[[Cell; 16]; 48] = &[
         cell!(112 642), // SMSW
         cell!(0 0), // -
         cell!(116 562), // LMSW
-        cell!(0 0), // -
+        cell!(117 0), // by rm
     ], // 0f01
     [
         cell!(126 76), // NOP

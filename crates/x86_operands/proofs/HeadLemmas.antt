@@ -17,7 +17,7 @@ use Rattle.x86_forms.proofs.FormLemmas.{up_to_seven}
 use Rattle.x86_operands.specs.declared.heads.After.TheVariants as follow
 use Rattle.x86_operands.specs.declared.rows.Reg.TheVariants as regs
 use Rattle.x86_operands.specs.declared.tables.TheConstants.{HEADS, ROWS, SPANS}
-use Rattle.x86_operands.specs.Columns.{is_placed, is_there, opcode_of, plan_of_row}
+use Rattle.x86_operands.specs.Columns.{is_named, is_placed, is_there, opcode_of, plan_of_row}
 use Rattle.x86_operands.specs.Forms.{Follows, IsPlainRow, form_plan, is_direct, is_searched, modrm_use, place_use, rows_use}
 use Rattle.x86_operands.specs.Rows.{form_rows}
 use Rattle.x86_operands.specs.Templates.{form_row, is_read_at, is_sound_row, template_plan}
@@ -186,8 +186,11 @@ row_below n z below = ltb-true _ _ (All-get_or (λ head. nat_lt head.row (length
 
 -- ---- the row of a head
 
-own_named : (names : Names) (own : TableRow) (m : ℕ) → is_own names ≡ true → (opcode_of names own m ≡ own.opcode) × (at_names names (reg_field m) ≡ true)
-own_named names own m h = (grind arith, grind arith)
+own_opcode : (names : Names) (own : TableRow) (m : ℕ) → is_own names ≡ true → opcode_of names own m ≡ own.opcode
+own_opcode names own m h = grind arith
+
+own_named : (names : Names) (m : ℕ) → is_own names ≡ true → (at_names names (reg_field m) ≡ true) × (is_named names m ≡ true)
+own_named names m h = (grind arith, grind arith)
 
 any_at : (r : Reg) (k : ℕ) → any_reg r ≡ true → at_reg r k ≡ true
 any_at r k h = grind arith
@@ -218,10 +221,11 @@ module _ (found : WordRow) (m : ℕ) (row : TemplateRow) (first : form_row row �
       let parts = and_parts (is_sure row && is_own row.names) _ head in
       let sure = and_parts (is_sure row) (is_own row.names) parts.0 in
       let rest = and_parts (any_reg row.at.reg) _ parts.1 in
-      let names = own_named row.names found.row m sure.1 in
-      let may : may_be row (is_memory m) (reg_field m) ≡ true = rw (place_at row.at.place m placed, any_at row.at.reg (reg_field m) rest.0, names.1) refl in
-      let there = present found.row false p m row may sure.0 in
-      plan_is row found.row found.number found.row.opcode p m sure.0 names.0 (numbered (carries found.row.form) row.template.of_opcode refl rest.1) refl
+      let names = own_named row.names m sure.1 in
+      let may : may_be row (is_memory m) (reg_field m) ≡ true = rw (place_at row.at.place m placed, any_at row.at.reg (reg_field m) rest.0, names.0) refl in
+      let there = present found.row false p m row may sure.0 names.1 in
+      let opcode = own_opcode row.names found.row m sure.1 in
+      plan_is row found.row found.number found.row.opcode p m sure.0 opcode (numbered (carries found.row.form) row.template.of_opcode refl rest.1) refl
       ∙ ap (λ chosen. plan_of_row chosen found.row p m)
       (first ∙ sym (first_chosen (form_rows found.row.form) found.row false p m (subst (λ r. is_there r found.row false p m ≡ true) first there)))
 

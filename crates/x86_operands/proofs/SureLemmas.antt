@@ -4,7 +4,7 @@ use Rattle.std.proofs.Common.{slice_index_or, refl, sym, ◌∙◌, arith}
 use Rattle.std.proofs.lemmas.Bool.{and_parts}
 use Rattle.x86_operands.specs.Vocabulary.{Prefixes, TableRow, Template, Size, OperandEncoding, Order, Width, Verdict, Accepts, PrefixChange}
 use Rattle.x86_operands.specs.Vocabulary.{Keeps, BadOpcode, AtModRM, reg_field, is_memory}
-use Rattle.x86_operands.specs.RowVocabulary.{FormRow, TemplateRow, Rm, Names, ByReg, ByRm, Place, Memory, Register, Reg, When}
+use Rattle.x86_operands.specs.RowVocabulary.{FormRow, TemplateRow, Rm, Names, ByReg, Place, Memory, Register, Reg, When}
 use Rattle.x86_operands.specs.declared.rows.Reg.TheVariants as regs
 use Rattle.x86_operands.specs.declared.rows.Rm.TheVariants as rms
 use Rattle.x86_operands.specs.declared.rows.When.TheVariants as when
@@ -50,10 +50,6 @@ abbrev any_rm : Rm → Bool
 any_rm rms.Any = true
 any_rm r = false
 
-abbrev pub not_by_rm : Names → Bool
-not_by_rm (ByRm names) = false
-not_by_rm names = true
-
 abbrev accepts : Verdict → Bool
 accepts Accepts = true
 accepts v = false
@@ -63,7 +59,7 @@ keeps Keeps = true
 keeps c = false
 
 abbrev is_first : TemplateRow → Bool
-is_first row = is_always row.when && (any_rm row.at.rm && not_by_rm row.names)
+is_first row = is_always row.when && any_rm row.at.rm
 
 -- where there is no operand of rm, there is no memory form
 abbrev is_bare : Place → Bool
@@ -80,17 +76,13 @@ is_at_once row =
 abbrev pub is_sure : TemplateRow → Bool
 is_sure row = is_first row && is_at_once row
 
-pub by_no_rm : (row : TemplateRow) → is_sure row ≡ true → not_by_rm row.names ≡ true
-by_no_rm row sure = (and_parts (any_rm row.at.rm) (not_by_rm row.names)
-    (and_parts (is_always row.when) _ (and_parts (is_first row) (is_at_once row) sure).0).1).1
-
 placed_at : (place : Place) (m : ℕ) → at_place place (is_memory m) ≡ true → is_placed place m ≡ true
 placed_at place m h = grind arith
 
 pub placed_by : (row : TemplateRow) (m : ℕ) → may_be row (is_memory m) (reg_field m) ≡ true → is_placed row.at.place m ≡ true
 placed_by row m h = placed_at row.at.place m (and_parts (at_place row.at.place (is_memory m)) _ h).0
 
--- ---- a sure row is chosen
+-- ---- a sure row is chosen, if it has a name
 
 module _ (own : TableRow) (strict : Bool) (p : Prefixes) (m : ℕ) where
   place_same : (place : Place) → is_placed place m ≡ at_place place (is_memory m)
@@ -101,9 +93,6 @@ module _ (own : TableRow) (strict : Bool) (p : Prefixes) (m : ℕ) where
 
   unnamed : (names : Names) → at_names names (reg_field m) ≡ false → is_named names m ≡ false
   unnamed names h = grind arith
-
-  named_surely : (names : Names) → not_by_rm names ≡ true → is_named names m ≡ at_names names (reg_field m)
-  named_surely names h = grind arith
 
   any_prefixes : (w : When) → is_always w ≡ true → is_prefixed w own p ≡ true
   any_prefixes w h = grind arith
@@ -124,11 +113,13 @@ module _ (own : TableRow) (strict : Bool) (p : Prefixes) (m : ℕ) where
       (not_there (at_place row.at.place (is_memory m)) (at_reg row.at.reg (reg_field m)) (is_rm row.at.rm strict m)
       (is_prefixed row.when own p) (is_named row.names m) (at_names row.names (reg_field m)) (unnamed row.names) h)
 
-  pub present : (row : TemplateRow) → may_be row (is_memory m) (reg_field m) ≡ true → is_sure row ≡ true → is_there (form_row row) own strict p m ≡ true
-  present row h sure =
-      let parts = and_parts (is_always row.when) _ (and_parts (is_first row) _ sure).0 in
-      let rest = and_parts (any_rm row.at.rm) (not_by_rm row.names) parts.1 in
-      rw (place_same row.at.place, reg_same row.at.reg, at_any_rm row.at.rm rest.0, any_prefixes row.when parts.0, named_surely row.names rest.1) h
+  pub present : (row : TemplateRow) → may_be row (is_memory m) (reg_field m) ≡ true → is_sure row ≡ true → is_named row.names m ≡ true →
+      is_there (form_row row) own strict p m ≡ true
+  present row h sure name =
+      let parts = and_parts (is_always row.when) (any_rm row.at.rm) (and_parts (is_first row) _ sure).0 in
+      let here = and_parts (at_place row.at.place (is_memory m)) _ h in
+      let reg = (and_parts (at_reg row.at.reg (reg_field m)) _ here.1).0 in
+      rw (place_same row.at.place, here.0, reg_same row.at.reg, reg, at_any_rm row.at.rm parts.1, any_prefixes row.when parts.0, name) refl
 
   -- the first that may be there, counted from 1; 0 where none may be, or it isn't sure
   abbrev Holds : List TemplateRow → ℕ → TemplateRow → Type 0
@@ -143,19 +134,23 @@ sure_at [] memory k = 0
 sure_at (row ∷ rest) memory k = if may_be row memory k then (if is_sure row then 1 else 0) else after (sure_at rest memory k)
 
 module _ (own : TableRow) (strict : Bool) (p : Prefixes) (m : ℕ) where
+  abbrev HasName : List TemplateRow → ℕ → TemplateRow → Type 0
+  HasName rows n d = is_named (slice_index_or rows n d).names m ≡ true
+
   step : (row : TemplateRow) (rest : List TemplateRow) (may sure : Bool) (k n : ℕ) (d : TemplateRow) →
       may_be row (is_memory m) (reg_field m) ≡ may → is_sure row ≡ sure →
-      ((n : ℕ) → k ≡ suc n → Holds own strict p m rest n d) →
-      (if may then (if sure then 1 else 0) else after k) ≡ suc n → Holds own strict p m (row ∷ rest) n d
-  step row rest true true k zero d e s h is = rw (present own strict p m row e s) refl
-  step row rest false sure (suc k) (suc n) d e s h is = rw (absent own strict p m row e) (h n (grind (arith, is)))
-  step row rest may sure k n d e s h is = absurd (grind (arith, is))
+      ((n : ℕ) → k ≡ suc n → HasName rest n d → Holds own strict p m rest n d) →
+      (if may then (if sure then 1 else 0) else after k) ≡ suc n → HasName (row ∷ rest) n d → Holds own strict p m (row ∷ rest) n d
+  step row rest true true k zero d e s h is name = rw (present own strict p m row e s name) refl
+  step row rest false sure (suc k) (suc n) d e s h is name = rw (absent own strict p m row e) (h n (grind (arith, is)) name)
+  step row rest may sure k n d e s h is name = absurd (grind (arith, is))
 
-  pub chosen : (rows : List TemplateRow) (n : ℕ) (d : TemplateRow) → sure_at rows (is_memory m) (reg_field m) ≡ suc n → Holds own strict p m rows n d
+  pub chosen : (rows : List TemplateRow) (n : ℕ) (d : TemplateRow) → sure_at rows (is_memory m) (reg_field m) ≡ suc n → HasName rows n d →
+      Holds own strict p m rows n d
   unfolding sure_at
-  chosen [] n d e = absurd (grind (arith, e))
-  chosen (row ∷ rest) n d e = step row rest (may_be row (is_memory m) (reg_field m)) (is_sure row)
-      (sure_at rest (is_memory m) (reg_field m)) n d refl refl (λ n is. chosen rest n d is) e
+  chosen [] n d e name = absurd (grind (arith, e))
+  chosen (row ∷ rest) n d e name = step row rest (may_be row (is_memory m) (reg_field m)) (is_sure row)
+      (sure_at rest (is_memory m) (reg_field m)) n d refl refl (λ n is. chosen rest n d is) e name
 
 -- ---- it is read at once
 

@@ -14,12 +14,12 @@ use x86_forms::WordRow;
 pub enum After {
     /// No ModRM.
     Nothing,
+    /// What a search of the rows finds.
+    Search,
     /// A ModRM, whose mod the row may go by.
     Fields,
     /// A ModRM, whose mod and reg choose a cell.
     Cells,
-    /// What a search of the rows finds.
-    Search,
 }
 
 impl After {

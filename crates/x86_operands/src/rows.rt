@@ -16,9 +16,9 @@ use x86_opcodes::Opcode;
 pub enum Place {
     /// No ModRM byte.
     Bare,
+    Either,
     Memory,
     Register,
-    Either,
 }
 
 /// With which reg a row is.
@@ -129,11 +129,11 @@ impl Place {
     pub(crate) fn has(self, modrm: ModRM) -> bool
         ensures { result ≡ is_placed self modrm }
     {
-        match self {
-            Place::Memory => modrm.is_memory(),
-            Place::Register => !modrm.is_memory(),
-            Place::Bare | Place::Either => true,
+        // Most rows are there at any ModRM byte: so one test comes first.
+        if self as usize <= Place::Either as usize {
+            return true;
         }
+        matches!(self, Place::Memory) == modrm.is_memory()
     }
 }
 

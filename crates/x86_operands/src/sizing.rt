@@ -1,5 +1,5 @@
 //! Sizes of memory, by W and 66, or by the operation.
-ghost use Rattle.std.specs.Prelude.{◌≡◌};
+ghost use Rattle.std.specs.Prelude.{◌≡◌, ◌≢◌};
 ghost use Rattle.x86_fields.specs.Sizes.{size_prefixes};
 ghost use Rattle.x86_operands.specs.Vocabulary.{Prefixes};
 ghost use Rattle.x86_operands.specs.Encodings.{named_size, size_bytes};
@@ -70,15 +70,24 @@ impl Size {
 }
 
 /// A size that the operation alone decides, and 0 for the others.
-#[inline(never)]
+#[inline(always)]
 fn named_size(size: Size, opcode: Opcode) -> u8
     ensures { result ≡ named_size size opcode }
 {
     match size {
-        Size::Call => match opcode {
-            Opcode::CALL => 8,
-            _ => 0,
-        },
+        Size::Call if opcode == Opcode::CALL => 8,
+        Size::Call => 0,
+        size => rare_size(size, opcode),
+    }
+}
+
+/// The same of a size that few encodings have: of all but CALL's.
+#[inline(never)]
+fn rare_size(size: Size, opcode: Opcode) -> u8
+    requires { size ≢ Size.Call }
+    ensures { result ≡ named_size size opcode }
+{
+    match size {
         Size::Bare => match opcode {
             Opcode::RETURN | Opcode::PUSHF | Opcode::POPF | Opcode::LEAVE => 8,
             Opcode::RETF => 10,
