@@ -59,7 +59,7 @@ TYPE_OF = {"slot": "RegisterSlot", "class": "RegisterClass"}
 # the letters that are the operand of reg or of rm, each with its width
 MM = {"Gmm": ("G", "Mm"), "Emm": ("E", "Mm"), "Umm": ("E", "Mm"), "StRm": ("E", "St")}
 # the words of the sizes in bytes
-BYTES = {0: "Zero", 1: "One", 2: "Two", 4: "Four", 8: "Eight", 10: "Ten", 16: "Sixteen", 48: "FortyEight", UNDECIDED: "Undecided", 64: "SixtyFour"}
+BYTES = {0: "Zero", 1: "One", 2: "Two", 4: "Four", 8: "Eight", 10: "Ten", 16: "Sixteen", 48: "FortyEight", 64: "SixtyFour"}
 # the last operands that are read at once
 AT_ONCE = ("I8", "U8", "U16", "I32", "Iv", "Ivq", "Ip", "ConstantI8", "ConstantU8", "Implied")
 
@@ -130,22 +130,20 @@ def where(words):
 
 
 def size(words):
-    """A size as the table has it."""
+    """The word of a size."""
     word, *of = words if isinstance(words, list) else words.split()
-    if not of:
-        return f"Of(Size::{word.removeprefix('of_').capitalize()})"
-    return {"Bytes": f"Bytes({of[0]})", "Of": f"Of(Size::{of[0]})"}[word]
+    return BYTES[int(of[0])] if of else word.removeprefix("of_").capitalize()
 
 
 def sizes(words):
     """The memory size in the memory form, and in the register form."""
     if isinstance(words, str):
-        return (f"Bytes({UNDECIDED})" if words == "undecided" else size(words.replace("size_", "of_")),) * 2
+        return (size(words.removeprefix("size_")),) * 2
     word, *of = words
-    if word in ("size", "size_of"):
-        return (size([{"size": "Bytes", "size_of": "Of"}[word], *of]),) * 2
     if word == "or_v":
-        return size(of[0]), size("of_v")
+        return size(of[0]), "V"
+    if word in ("size", "size_of"):
+        return (BYTES[int(of[0])] if word == "size" else of[0],) * 2
     memory, register = " ".join(words).split(", ")
     return size(memory), size(register)
 
@@ -303,12 +301,6 @@ class Template:
         return f"{self.order} {self.reg} {str(self.of_opcode).lower()} {self.rm or 'B'} {last}, {extra}"
 
 
-def size_word(text):
-    """The word of a size."""
-    of = re.fullmatch(r"Of\(Size::(\w+)\)", text)
-    return of[1] if of else BYTES[int(re.fullmatch(r"Bytes\((\d+)\)", text)[1])]
-
-
 def names(words, numbers):
     if isinstance(words, str):
         return words
@@ -323,7 +315,7 @@ def entry(each, numbers):
     operands = Template(each.operands)
     if each.error:
         return f"refused!({at}; {operands}; {each.error})"
-    sizes = " ".join(map(size_word, each.sizes))
+    sizes = " ".join(each.sizes)
     if each.names is None:
         return f"suffixed!({at}; {operands}; {sizes})"
     change = f"; {each.change}" if each.change else ""

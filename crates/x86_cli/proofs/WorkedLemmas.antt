@@ -27,7 +27,7 @@ use Rattle.x86_operands.specs.Asks.{immediate_width}
 use Rattle.x86_operands.specs.Forms.{form_plan, form_record, modrm_use}
 use Rattle.x86_operands.specs.Rows.{form_rows}
 use Rattle.x86_operands.specs.Pieces.{SpellsOperands, SpellsMemory, operand_from, past_opcode, at_modrm}
-use Rattle.x86_operands.specs.Plans.{list_of}
+use Rattle.x86_operands.specs.Plans.{plan_encodings}
 use Rattle.x86_operands.specs.PlanSteps.{four_of, reading_from}
 use Rattle.x86_operands.specs.Operands.{shape}
 use Rattle.x86_groups.specs.Rows.{group_rows}
@@ -86,9 +86,9 @@ module _ (strict : Bool) (run : List ℕ) (in_map : Map) (opcode : ℕ) (row : T
       let s = run ++ (escape_bytes in_map ++ opcode ∷ m ∷ (sib ++ displacement)) in
       is_run run ≡ true → is_opcode in_map opcode ≡ true → printed_row in_map (column_of (reading_of run)) opcode ≡ Some row →
       r.at_opcode ≡ None → r.modrm ≡ EitherForm →
-      plan.verdict ≡ Accepts → total (map immediate_width (list_of plan.encodings)) ≡ 0 → SpellsMemory p m (sib ++ displacement) memory →
+      plan.verdict ≡ Accepts → total (map immediate_width (plan_encodings plan)) ≡ 0 → SpellsMemory p m (sib ++ displacement) memory →
       length sib ≡ sib_width m →
-      reading ≡ reading_from plan p plan.opcode (four_of (pairs_of (list_of plan.encodings) p m memory)) → allows_lock reading ≡ lawful → length s ≤ 15 →
+      reading ≡ reading_from plan p plan.opcode (four_of (pairs_of (plan_encodings plan) p m memory)) → allows_lock reading ≡ lawful → length s ≤ 15 →
       Encodes printed_row strict lawful s (instruction_of reading (part_ends parts_at) (length s))
   sentence_of lawful reading prefixes is_opcode has_row passed modrm accepts none spelled long reads locks short =
       let p = seen_by in_map opcode (reading_of run) in

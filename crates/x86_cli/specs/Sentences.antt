@@ -10,12 +10,11 @@ use Rattle.x86_fields.specs.Parts.{PartLists}
 use Rattle.x86_forms.specs.declared.Map.{Map}
 use Rattle.x86_forms.specs.declared.TableRow.{TableRow}
 use Rattle.x86_operands.specs.declared.plans.Fault.{Fault}
-use Rattle.x86_operands.specs.declared.plans.Plan.{Plan}
 use Rattle.x86_operands.specs.declared.operands.Slot.{Slot}
 use Rattle.x86_operands.specs.declared.operands.Operand.{Operand}
 use Rattle.x86_operands.specs.declared.places.Places.{Places}
 use Rattle.x86_operands.specs.declared.reader.Reading.{Reading}
-use Rattle.x86_operands.specs.Plans.{RowRecord, is_refusal, list_of}
+use Rattle.x86_operands.specs.Plans.{Plan, RowRecord, is_refusal, plan_encodings}
 use Rattle.x86_operands.specs.PlanSteps.{error_of, four_of, reading_from}
 use Rattle.x86_operands.specs.Asks.{modrm_of}
 use Rattle.x86_operands.specs.Pieces.{SpellsMemory, SpellsOperands, RefusesRow, modrm_width, suffix_width, opcode_by}
@@ -64,7 +63,7 @@ module _ (rows : Rows) (strict : Bool) where
     pub address_spelled : SpellsMemory seen modrm (parts.sib ++ parts.displacement) memory
     pub sib_length : length parts.sib ≡ sib_width modrm
     pub operands : List (Slot × Operand)
-    pub immediates_spelled : SpellsOperands (list_of plan.encodings) seen modrm memory parts.immediate operands
+    pub immediates_spelled : SpellsOperands (plan_encodings plan) seen modrm memory parts.immediate operands
     pub suffix_length : length parts.suffix ≡ suffix_width plan.verdict
     pub operation : ℕ
     pub named : opcode_by plan.verdict plan.opcode parts.suffix ≡ Some operation

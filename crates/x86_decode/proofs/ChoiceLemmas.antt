@@ -55,12 +55,12 @@ compared_from (Err e) s f g each = same refl
 -- ---- plans
 
 abbrev fence_reading : ℕ → Prefixes → Reading
-fence_reading o p = reading_from (operandless o) p o (four_of [])
+fence_reading o p = reading_from (operandless o p) p o (four_of [])
 
 -- by the law of x86_groups on its two choices
 module _ (same_elsewhere : (row : TableRow) (p : Prefixes) (m : ℕ) → (group_plan row p m true ≡ group_plan row p m false) ⊎ IsFenceWithRm row.form p m)
-    (fence_by_default : (row : TableRow) (p : Prefixes) (m : ℕ) (fence : IsFenceWithRm row.form p m) → group_plan row p m false ≡ operandless fence.opcode)
-    (fence_strictly : (row : TableRow) (p : Prefixes) (m : ℕ) → IsFenceWithRm row.form p m → group_plan row p m true ≡ bad_operand) where
+    (fence_by_default : (row : TableRow) (p : Prefixes) (m : ℕ) (fence : IsFenceWithRm row.form p m) → group_plan row p m false ≡ operandless fence.opcode p)
+    (fence_strictly : (row : TableRow) (p : Prefixes) (m : ℕ) → IsFenceWithRm row.form p m → group_plan row p m true ≡ bad_operand p) where
   compared_row : (t : Bool) (n : ℕ) (row : TableRow) (p : Prefixes) (s : State ℕ) →
       Compared (record_placed n (if t then group_record true row p else form_record row p) p s)
       (record_placed n (if t then group_record false row p else form_record row p) p s)
@@ -70,7 +70,7 @@ module _ (same_elsewhere : (row : TableRow) (p : Prefixes) (m : ℕ) → (group_
       (λ _ t. compared_from (read_modrm (group_modrm row.form) t).answer (read_modrm (group_modrm row.form) t).after _ _
       (λ m z. elim (same_elsewhere row p m) [
         | inl e ↦ same (ap (λ plan. plan_placed n plan p m z) e)
-        | inr h ↦ differ (fence_reading h.opcode p, plan_places (operandless h.opcode) p m z n)
+        | inr h ↦ differ (fence_reading h.opcode p, plan_places (operandless h.opcode p) p m z n)
             (ap (λ plan. (plan_placed n plan p m z).answer) (fence_by_default row p m h) ∙ rw h.register refl)
             (ap (λ plan. (plan_placed n plan p m z).answer) (fence_strictly row p m h))
       ]))
@@ -78,7 +78,7 @@ module _ (same_elsewhere : (row : TableRow) (p : Prefixes) (m : ℕ) → (group_
 
   -- ---- a fence in the grammar
 
-  bare_tail : (o : ℕ) (p : Prefixes) (m : ℕ) → is_memory m ≡ false → SpellsTail (operandless o) p m [] (fence_reading o p)
+  bare_tail : (o : ℕ) (p : Prefixes) (m : ℕ) → is_memory m ≡ false → SpellsTail (operandless o p) p m [] (fence_reading o p)
   bare_tail o p m register = record {
     pieces = record {
       memory = None;

@@ -8,16 +8,14 @@ use Rattle.x86_forms.specs.declared.TableRow.{TableRow}
 use Rattle.x86_operands.specs.declared.heads.After.{After}
 use Rattle.x86_operands.specs.declared.heads.After.TheVariants as after
 use Rattle.x86_operands.specs.declared.plans.ModrmUse.TheVariants.{Absent, EitherForm}
-use Rattle.x86_operands.specs.declared.plans.Plan.{Plan}
 use Rattle.x86_operands.specs.declared.places.Places.{Places}
 use Rattle.x86_operands.specs.declared.reader.Reading.{Reading}
 use Rattle.x86_operands.specs.declared.templates.Template.{Template}
 use Rattle.x86_operands.specs.Asks.{uses_suffix}
 use Rattle.x86_operands.specs.OperandList.{value_if_ok}
-use Rattle.x86_operands.specs.Plans.{RowRecord}
 use Rattle.x86_operands.specs.PlanSteps.{read_modrm, read_plan}
 use Rattle.x86_operands.specs.Places.{Placed, place_after_address, place_of, plan_placed, plan_places, record_placed}
-use Rattle.x86_operands.specs.Templates.{template_plan}
+use Rattle.x86_operands.specs.Plans.{Plan, RowRecord, template_plan}
 use Rattle.x86_operands.proofs.PlaceLemmas.{plan_is_placed}
 use Rattle.x86_groups.specs.Groups.{record_of}
 use Rattle.x86_groups.specs.Heads.{Continues}

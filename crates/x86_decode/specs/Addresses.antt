@@ -3,9 +3,8 @@ use Rattle.std.specs.Prelude.{ℕ, Bool, Option, List}
 use Rattle.x86_fields.specs.declared.raw.Raw.{Raw}
 use Rattle.x86_fields.specs.Run.{reading_of}
 use Rattle.x86_operands.specs.declared.plans.OperandEncoding.{OperandEncoding}
-use Rattle.x86_operands.specs.declared.plans.Plan.{Plan}
 use Rattle.x86_operands.specs.declared.reader.Reading.{Reading}
-use Rattle.x86_operands.specs.Plans.{list_of}
+use Rattle.x86_operands.specs.Plans.{Plan, plan_encodings}
 use Rattle.x86_operands.specs.Asks.{modrm_of}
 use Rattle.x86_decode.specs.Head.{Rows, seen_by}
 use Rattle.x86_groups.specs.Groups.{record_of}
@@ -19,7 +18,7 @@ module _ (rows : Rows) (strict : Bool) (s : List ℕ) (reading : Reading) (w : W
 
   -- the encodings of its operands
   abbrev pub encodings_within : List OperandEncoding
-  encodings_within = list_of (plan_within).encodings
+  encodings_within = plan_encodings plan_within
 
   -- the raw fields, in the memory form
   abbrev pub raw_within : Option Raw

@@ -17,7 +17,8 @@ use Rattle.x86_operands.specs.declared.rows.TemplateRow.{TemplateRow}
 use Rattle.x86_operands.specs.declared.rows.Names.TheVariants.{Name, ByReg, Own}
 use Rattle.x86_operands.specs.Columns.{choose, is_named, is_placed, name_at, named, opcode_of, plan_of_row}
 use Rattle.x86_operands.specs.Forms.{is_searched}
-use Rattle.x86_operands.specs.Templates.{is_read_at, template_plan}
+use Rattle.x86_operands.specs.Plans.{template_plan}
+use Rattle.x86_operands.specs.Templates.{is_read_at}
 use Rattle.x86_operands.proofs.SureLemmas.{after, chosen, has_free_sizes, is_read, is_sure, may_be, placed_by, plan_is, sizes_by, sure_at}
 use Rattle.x86_groups.specs.declared.cells.Cell.{Cell}
 use Rattle.x86_groups.specs.declared.tables.TheConstants.{CELLS, CELLS_AT, ROWS, SPANS}

@@ -2,7 +2,7 @@
 use Rattle.std.proofs.Common.{◌≡◌, ℕ, zero, suc, ◌==◌, ◌⊎◌, inl, inr, Bool, true, false, not, ◌&&◌, ◌||◌, [], ◌∷◌, refl, sym, ap, ◌∙◌, arith, true≢false}
 use Rattle.std.specs.List.{list_all}
 use Rattle.std.proofs.lemmas.Bool.{cases_Bool, ne_eqb}
-use Rattle.x86_groups.specs.Vocabulary.{Prefixes, TableRow, Form, ModrmUse, reg_field, rm_field, Rm, FormRow}
+use Rattle.x86_groups.specs.Vocabulary.{Prefixes, TableRow, Form, ModrmUse, reg_field, rm_field, Rm, TemplateRow}
 use Rattle.x86_forms.specs.Groups.{is_group}
 use Rattle.x86_forms.specs.declared.Form.TheVariants as form
 use Rattle.x86_opcodes.specs.Names.{LFENCE, MFENCE, SFENCE}
@@ -29,7 +29,7 @@ fence_named m _ e h = absurd (true≢false (sym h))
 
 module _ (own : TableRow) (p : Prefixes) (m : ℕ) where
   -- a row that is there under both choices or under neither
-  abbrev same_row : FormRow → Bool
+  abbrev same_row : TemplateRow → Bool
   same_row row = not (by_choice row.at.rm) || ((rm_field m == 0) || not (is_there row own false p m))
 
   by_zero : (a b z rest : Bool) → (z || not (a && (b && rest))) ≡ true → (a && (b && (z && rest))) ≡ (a && (b && rest))
@@ -40,7 +40,7 @@ module _ (own : TableRow) (p : Prefixes) (m : ℕ) where
   rm_same rms.ZeroIfStrict a b rest h = by_zero a b (rm_field m == 0) rest h
   rm_same r a b rest h = refl
 
-  row_same : (row : FormRow) → same_row row ≡ true → is_there row own true p m ≡ is_there row own false p m
+  row_same : (row : TemplateRow) → same_row row ≡ true → is_there row own true p m ≡ is_there row own false p m
   row_same row h = rm_same row.at.rm (is_placed row.at.place m) (is_reg row.at.reg m) (is_prefixed row.when own p && is_named row.names m) h
 
   fence_of : list_all same_row (group_rows form.ModRM_0x0fae) ≡ false → IsFenceWithRm form.ModRM_0x0fae p m
@@ -77,23 +77,23 @@ same_elsewhere row p m = elim (same_or_fence row.form row p m) [
 ]
 
 module _ (row : TableRow) (p : Prefixes) (m : ℕ) (h : IsFenceWithRm row.form p m) where
-  by_default : (o : ℕ) → NamesFence m o → plan_of_row (choose (group_rows form.ModRM_0x0fae) row false p m) row p m ≡ operandless o
+  by_default : (o : ℕ) → NamesFence m o → plan_of_row (choose (group_rows form.ModRM_0x0fae) row false p m) row p m ≡ operandless o p
   unfolding group_rows
   by_default o (lfence e) = rw (h.no_f2, h.no_f3, h.no_66, h.register, e) (rw e refl)
   by_default o (mfence e) = rw (h.no_f2, h.no_f3, h.no_66, h.register, e) (rw e refl)
   by_default o (sfence e) = rw (h.no_f2, h.no_f3, h.no_66, h.register, e) (rw e refl)
 
-  strictly : (o : ℕ) → NamesFence m o → plan_of_row (choose (group_rows form.ModRM_0x0fae) row true p m) row p m ≡ bad_operand
+  strictly : (o : ℕ) → NamesFence m o → plan_of_row (choose (group_rows form.ModRM_0x0fae) row true p m) row p m ≡ bad_operand p
   unfolding group_rows
   strictly o (lfence e) = rw (h.no_f2, h.no_f3, h.no_66, h.register, ne_eqb (rm_field m) 0 h.other_rm, e) refl
   strictly o (mfence e) = rw (h.no_f2, h.no_f3, h.no_66, h.register, ne_eqb (rm_field m) 0 h.other_rm, e) refl
   strictly o (sfence e) = rw (h.no_f2, h.no_f3, h.no_66, h.register, ne_eqb (rm_field m) 0 h.other_rm, e) refl
 
-  pub fence_by_default : group_plan row p m false ≡ operandless h.opcode
+  pub fence_by_default : group_plan row p m false ≡ operandless h.opcode p
   unfolding group_plan
   fence_by_default = ap (λ f. plan_of_row (choose (group_rows f) row false p m) row p m) h.group ∙ by_default h.opcode h.named
 
-  pub fence_strictly : group_plan row p m true ≡ bad_operand
+  pub fence_strictly : group_plan row p m true ≡ bad_operand p
   unfolding group_plan
   fence_strictly = ap (λ f. plan_of_row (choose (group_rows f) row true p m) row p m) h.group ∙ strictly h.opcode h.named
 

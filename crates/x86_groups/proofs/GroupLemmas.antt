@@ -2,12 +2,13 @@
 use Rattle.std.proofs.Common.{◌≡◌, ◌≢◌, ◌≤◌, inl, inr, Err, ℕ, ◌==◌, Bool, true, false, not, ◌||◌, Some, refl, sym, subst, ap, ◌∙◌, true≢false, arith}
 use Rattle.x86_arch.specs.Reader.{State}
 use Rattle.x86_fields.specs.declared.errors.DecodeError.TheVariants.{IncompleteDecoder}
-use Rattle.x86_groups.specs.Vocabulary.{Prefixes, Form, TableRow, EitherForm, Incomplete, Plan, Moment, AfterAddress, reg_field}
+use Rattle.x86_groups.specs.Vocabulary.{Prefixes, Form, TableRow, EitherForm, Incomplete, Moment, AfterAddress, reg_field}
 use Rattle.x86_operands.specs.declared.plans.Verdict.TheVariants.{Refuses}
 use Rattle.x86_forms.specs.declared.Form.TheVariants as form
 use Rattle.x86_forms.specs.Groups.{is_group}
 use Rattle.x86_forms.specs.Words.{IsForm}
 use Rattle.x86_operands.specs.Forms.{modrm_use}
+use Rattle.x86_operands.specs.Plans.{Plan}
 use Rattle.x86_operands.specs.Rows.{form_rows}
 use Rattle.x86_operands.specs.Asks.{immediates_width}
 use Rattle.x86_operands.specs.PlanSteps.{record_step}
@@ -54,7 +55,7 @@ pub group_small : (strict : Bool) (row : TableRow) (p : Prefixes) (m : ℕ) → 
 unfolding group_record
 group_small strict row p m = at_most_64 (may_have_gap row.form) (group_plan row p m strict) (group_passes row strict p m)
 
-pub group_narrow : (strict : Bool) (row : TableRow) (p : Prefixes) (m : ℕ) → immediates_width ((group_record strict row p).plan m).encodings ≤ 8
+pub group_narrow : (strict : Bool) (row : TableRow) (p : Prefixes) (m : ℕ) → immediates_width ((group_record strict row p).plan m) ≤ 8
 unfolding group_record
 group_narrow strict row p m = at_most_8 (may_have_gap row.form) (group_plan row p m strict) (group_passes row strict p m)
 

@@ -1,5 +1,5 @@
 -- How rows go on after their opcode byte, and where the rows of a group are in the table.
-use Rattle.std.proofs.Common.{◌≢◌, ◌∙◌, [], ◌≡◌, ◌-◌, nat_le, ℕ, Bool, true, false, None, map, length, take, drop, get_or, refl, arith}
+use Rattle.std.proofs.Common.{◌≢◌, ◌∙◌, [], ◌≡◌, ◌-◌, nat_le, ℕ, Bool, true, false, None, length, take, drop, get_or, refl, arith}
 use Rattle.std.specs.List.{list_all}
 use Rattle.x86_fields.specs.Run.{reading_of}
 use Rattle.x86_groups.specs.Vocabulary.{After, EitherForm, Form, Prefixes, TableRow, is_memory}
@@ -10,7 +10,8 @@ use Rattle.x86_forms.specs.Groups.{is_group}
 use Rattle.x86_forms.specs.Ordinals.{first_ordinal_of}
 use Rattle.x86_operands.specs.declared.templates.Template.{Template}
 use Rattle.x86_operands.specs.Forms.{Follows, IsPlainRow, form_record, is_searched, modrm_use}
-use Rattle.x86_operands.specs.Templates.{form_row, is_sound_row, template_plan}
+use Rattle.x86_operands.specs.Plans.{template_plan}
+use Rattle.x86_operands.specs.Templates.{is_sound_row}
 use Rattle.x86_groups.specs.declared.tables.TheConstants.{ROWS, SPANS}
 use Rattle.x86_groups.specs.Groups.{group_fault, group_modrm, group_record, record_of}
 use Rattle.x86_groups.specs.Heads.{Continues}
@@ -21,7 +22,7 @@ use Rattle.x86_groups.specs.Rows.{group_rows}
 pub record IsSpan (f : Form) (span : ℕ × ℕ) : Type 0 where
   pub ordered : nat_le span.0 span.1 ≡ true
   pub inside : nat_le span.1 (length ROWS.now) ≡ true
-  pub rows : map form_row (take (span.1 - span.0) (drop span.0 ROWS.now)) ≡ group_rows f
+  pub rows : take (span.1 - span.0) (drop span.0 ROWS.now) ≡ group_rows f
   pub sound : list_all is_sound_row (take (span.1 - span.0) (drop span.0 ROWS.now)) ≡ true
 
 pub span_at : (f : Form) (d : ℕ × ℕ) → IsSpan f (get_or SPANS.now (first_ordinal_of f) d)

@@ -2,14 +2,15 @@
 -- maps has its record. Source: Intel SDM volume 2, appendix A.4.
 use Rattle.std.specs.Prelude.{ℕ, Bool, true, false, not, ◌&&◌, if◌then◌else◌, Option, Some, None, is_some, ◌≡◌, ◌≢◌}
 use Rattle.x86_regs.specs.declared.Segment.{Segment}
-use Rattle.x86_groups.specs.Vocabulary.{Prefixes, Fault, BadOpcode, AtModRM, ModrmUse, EitherForm, Registers, Zero, Plan, Form, TableRow}
+use Rattle.x86_groups.specs.Vocabulary.{Prefixes, Fault, BadOpcode, AtModRM, ModrmUse, EitherForm, Registers, Form, TableRow}
 use Rattle.x86_groups.specs.Vocabulary.{rep, repnz, reg_field, rm_field, is_memory, operand_size}
 use Rattle.x86_fields.specs.Prefixes.{operand_size, address_size, lock, segment, rex}
 use Rattle.x86_forms.specs.Groups.{is_group}
-use Rattle.x86_operands.specs.Plans.{RowRecord, reads, refused}
+use Rattle.x86_operands.specs.Plans.{Plan, RowRecord, reads, refused}
 use Rattle.x86_operands.specs.Forms.{form_record}
 use Rattle.x86_forms.specs.declared.Form.TheVariants as form
 use Rattle.x86_operands.specs.Columns.{choose, plan_of_row}
+use Rattle.x86_operands.specs.Words.{Zero}
 use Rattle.x86_groups.specs.Rows.{group_rows}
 use Rattle.x86_opcodes.specs.Names.{Invalid, LFENCE, MFENCE, SFENCE}
 
@@ -53,11 +54,11 @@ abbrev pub record_of : Bool → TableRow → Prefixes → RowRecord
 record_of strict row p = if is_group row.form then group_record strict row p else form_record row p
 
 -- no operand and no memory, and a refusal of the operand after ModRM
-abbrev pub operandless : ℕ → Plan
-operandless opcode = reads opcode Zero 0
+abbrev pub operandless : ℕ → Prefixes → Plan
+operandless opcode p = reads opcode Zero 0 p 0
 
-abbrev pub bad_operand : Plan
-bad_operand = refused true AtModRM (operandless Invalid)
+abbrev pub bad_operand : Prefixes → Plan
+bad_operand p = refused true AtModRM (operandless Invalid p)
 
 -- ---- where the choices differ. Source: Intel SDM volume 2, appendix A.4, group 15
 

@@ -6,8 +6,8 @@ use Rattle.x86_operands.specs.declared.plans.ModrmUse.TheVariants.{Absent}
 use Rattle.x86_operands.specs.declared.rows.Names.TheVariants.{ByRm}
 use Rattle.x86_operands.specs.Columns.{name_at}
 use Rattle.x86_forms.specs.declared.words.WordRow.{WordRow}
-use Rattle.x86_operands.specs.Plans.{RowRecord}
-use Rattle.x86_operands.specs.Templates.{is_read_at, template_plan}
+use Rattle.x86_operands.specs.Plans.{RowRecord, template_plan}
+use Rattle.x86_operands.specs.Templates.{is_read_at}
 use Rattle.x86_groups.specs.Groups.{record_of}
 
 -- no ModRM, or a ModRM of either form, and no refusal before it

@@ -29,18 +29,18 @@ use Rattle.x86_opcodes.specs.Names.{VERW, VMCALL, VMCLEAR, VMFUNC, VMLAUNCH, VML
 use Rattle.x86_opcodes.specs.Names.{VMXOFF, VMXON, WRFSBASE, WRGSBASE, WRPKRU, XABORT, XBEGIN, XEND, XGETBV, XOR, XRESLDTRK, XRSTOR}
 use Rattle.x86_opcodes.specs.Names.{XRSTORS, XRSTORS64, XSAVE, XSAVEC, XSAVEC64, XSAVEOPT, XSAVES, XSAVES64, XSETBV, XSUSLDTRK, XTEST}
 use Rattle.x86_fields.specs.declared.sizes.Width.TheVariants.{B, W, D, Q, X, V, Vq, Dq}
-use Rattle.x86_groups.specs.Vocabulary.{Form, BadOpcode, BadOperand, Incomplete, AtModRM, AfterAddress, ClearsOperandSize, Own, Name, Bytes, FormRow}
+use Rattle.x86_groups.specs.Vocabulary.{Form, BadOpcode, BadOperand, Incomplete, AtModRM, AfterAddress, ClearsOperandSize, Own, Name, TemplateRow}
 use Rattle.x86_forms.specs.declared.Form.TheVariants as form
 use Rattle.x86_operands.specs.declared.plans.OperandEncoding.TheVariants.{E, G, Gmm, Emm, Cr, Dr, I8, U8, Iv, X8, Jv, StRm, RdInReg}
-use Rattle.x86_operands.specs.declared.plans.OperandEncodings.TheVariants.{Zero, One, Two, Three, Four}
 use Rattle.x86_operands.specs.declared.rows.When.TheVariants.{Always, NoPrefix, NoRepeat, Only66, F2, F3, With66, RexW, RexR}
 use Rattle.x86_operands.specs.Columns.{none}
 use Rattle.x86_operands.specs.Words.{mem, reg, both, mem_at, reg_at, both_at, reg_from, reg_rm, rm_at, strict_rm, by_reg, by_rm, M, U, Umm}
+use Rattle.x86_operands.specs.Words.{Zero, One, Two, Three, Four, Bytes}
 use Rattle.x86_operands.specs.Words.{signed_one, cl, rax, eax, ecx, st0, ecx_in_rm, edx_in_rm, ecx_third, of_vq, of_dq, size, size_v}
 use Rattle.x86_operands.specs.Words.{size_vq, or_v, undecided, read, changing, suffixed, refusal, otherwise}
 
 -- of the groups none is left to the last line, for forms that have no rows
-unfoldable pub group_rows : Form → List FormRow
+unfoldable pub group_rows : Form → List TemplateRow
 -- maps 0F38 and 0F3A: Key Locker
 group_rows form.ModRM_0xf30f38d8 =
     read mem Always (by_reg AESENCWIDE128KL AESDECWIDE128KL none none none none none none) (One M) (size 48) ∷

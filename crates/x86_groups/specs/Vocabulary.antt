@@ -5,18 +5,14 @@ pub use Rattle.x86_operands.specs.Vocabulary.{is_memory, operand_size, reg_field
 pub use Rattle.x86_operands.specs.declared.plans.Fault.{Fault}
 pub use Rattle.x86_operands.specs.declared.plans.Moment.{Moment}
 pub use Rattle.x86_operands.specs.declared.plans.ModrmUse.{ModrmUse}
-pub use Rattle.x86_operands.specs.declared.plans.Plan.{Plan}
 pub use Rattle.x86_operands.specs.declared.heads.After.{After}
 pub use Rattle.x86_operands.specs.declared.sizing.Size.{Size}
 pub use Rattle.x86_operands.specs.declared.reader.Reading.{Reading}
-pub use Rattle.x86_operands.specs.declared.plans.OperandEncodings.TheVariants.{Zero}
 pub use Rattle.x86_operands.specs.declared.plans.Fault.TheVariants.{BadOpcode, BadOperand, Incomplete}
 pub use Rattle.x86_operands.specs.declared.plans.Moment.TheVariants.{AtModRM, AfterAddress}
 pub use Rattle.x86_operands.specs.declared.plans.PrefixChange.TheVariants.{Keeps, ClearsOperandSize}
 pub use Rattle.x86_operands.specs.declared.plans.ModrmUse.TheVariants.{EitherForm, Registers}
-pub use Rattle.x86_operands.specs.declared.rows.RowSize.{RowSize}
 pub use Rattle.x86_operands.specs.declared.rows.Rm.{Rm}
 pub use Rattle.x86_operands.specs.declared.rows.Names.{Names}
-pub use Rattle.x86_operands.specs.declared.rows.FormRow.{FormRow}
-pub use Rattle.x86_operands.specs.declared.rows.RowSize.TheVariants.{Bytes, Of}
+pub use Rattle.x86_operands.specs.declared.rows.TemplateRow.{TemplateRow}
 pub use Rattle.x86_operands.specs.declared.rows.Names.TheVariants.{Own, Name}

@@ -62,9 +62,10 @@ pub fn choices_differ_on_fences()
     ensures elsewhere { (row : TableRow) (p : Prefixes) (m : ℕ) →
         (group_plan row p m true ≡ group_plan row p m false) ⊎ IsFenceWithRm row.form p m }
     ensures by_default { (row : TableRow) (p : Prefixes) (m : ℕ)
-        (fence : IsFenceWithRm row.form p m) → group_plan row p m false ≡ operandless fence.opcode }
+        (fence : IsFenceWithRm row.form p m) → group_plan row p m false
+        ≡ operandless fence.opcode p }
     ensures strictly { (row : TableRow) (p : Prefixes) (m : ℕ) →
-        IsFenceWithRm row.form p m → group_plan row p m true ≡ bad_operand }
+        IsFenceWithRm row.form p m → group_plan row p m true ≡ bad_operand p }
 {}
 
 /// Of an operand in the plan of any row, for which no byte is read, `known_operand` makes an unsigned 0 only where the row

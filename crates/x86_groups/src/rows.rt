@@ -1,7 +1,7 @@
 //! The rows of all forms: at the opcode byte, at a ModRM byte, and what they have. Where the form is a group, its rows say
 //! it.
 
-ghost use Rattle.std.specs.Prelude.{◌≡◌, ◌≤◌, ◌-◌, Bool, true, false, IfSome, length, map, take, drop};
+ghost use Rattle.std.specs.Prelude.{◌≡◌, ◌≤◌, ◌-◌, Bool, true, false, IfSome, length, take, drop};
 ghost use Rattle.std.specs.List.{list_all};
 ghost use Rattle.x86_fields.specs.declared.prefixes.Prefixes.{Prefixes};
 ghost use Rattle.x86_fields.specs.ModRM.{is_memory};
@@ -9,7 +9,7 @@ ghost use Rattle.x86_forms.specs.Groups.{is_group};
 ghost use Rattle.x86_forms.specs.Words.{IsForm};
 ghost use Rattle.x86_operands.specs.Asks.{ask_of, record_at};
 ghost use Rattle.x86_operands.specs.Columns.{is_placed, plan_of_row};
-ghost use Rattle.x86_operands.specs.Templates.{form_row, is_sound_row};
+ghost use Rattle.x86_operands.specs.Templates.{is_sound_row};
 ghost use Rattle.x86_operands.specs.declared.plans.ModrmUse.TheVariants.{Absent};
 ghost use Rattle.x86_groups.specs.Groups.{group_record, record_of};
 ghost use Rattle.x86_groups.specs.Heads.{Continues, IsSure};
@@ -67,8 +67,7 @@ pub fn sure_row(found: &WordRow, modrm: ModRM) -> Option<SureRow<'static>>
 fn span_of(form: Form) -> (&'static [TemplateRow], u16, u16)
     ensures ordered { result.1 ≤ result.2 }
     ensures inside { result.2 ≤ length result.0.now }
-    ensures rows { map form_row (take (result.2 - result.1) (drop result.1 result.0.now))
-        ≡ group_rows form }
+    ensures rows { take (result.2 - result.1) (drop result.1 result.0.now) ≡ group_rows form }
     ensures sound { list_all is_sound_row
         (take (result.2 - result.1) (drop result.1 result.0.now)) ≡ true }
 {
@@ -78,7 +77,7 @@ fn span_of(form: Form) -> (&'static [TemplateRow], u16, u16)
 
 /// The rows of a group.
 fn group_rows(form: Form) -> &'static [TemplateRow]
-    ensures rows { map form_row result.now ≡ group_rows form }
+    ensures rows { result.now ≡ group_rows form }
     ensures sound { list_all is_sound_row result.now ≡ true }
 {
     let (rows, first, end) = span_of(form);
@@ -121,7 +120,7 @@ pub(crate) fn chosen_row(
     prefixes: &Prefixes,
     modrm: ModRM,
 ) -> TemplateRow
-    ensures plan { plan_of_row (form_row result) own.now prefixes.now modrm
+    ensures plan { plan_of_row result own.now prefixes.now modrm
         ≡ (record_of strict own.now prefixes.now).plan modrm }
     ensures sound { is_sound_row result ≡ true }
     ensures placed { is_placed result.at.place modrm ≡ true }

@@ -1,35 +1,35 @@
 -- What the columns of the first row have: that its plan passes the tests of plans, and what it goes by in the memory form.
-use Rattle.std.proofs.Common.{◌&&◌, ◌≡◌, inl, inr, ◌≤◌, ℕ, nat_lt, Bool, true, false, not, ◌||◌, List, [], ◌∷◌, map, refl, sym, ap, ◌∙◌}
+use Rattle.std.proofs.Common.{◌&&◌, ◌≡◌, inl, inr, ◌≤◌, ℕ, ◌+◌, nat_lt, Bool, true, false, not, ◌||◌, List, [], ◌∷◌, refl, sym, ap, ◌∙◌}
 use Rattle.std.proofs.Common.{arith, true≢false, ◌≢◌, if◌then◌else◌, rules}
 use Rattle.std.specs.List.{list_all, list_any}
 use Rattle.std.proofs.lemmas.Bool.{and_parts, or_cases, and_left}
 use Rattle.std.proofs.lemmas.Bool.Decides.{nat_tests}
-use Rattle.x86_fields.specs.Pieces.{total}
-use Rattle.x86_operands.specs.Vocabulary.{Prefixes, Size, OperandEncoding, TableRow, BadOpcode, AtModRM, reg_field, is_memory}
-use Rattle.x86_operands.specs.Vocabulary.{RegisterClass, Fault, Incomplete, Moment, Verdict, Refuses, Plan, OperandEncodings, width_of}
-use Rattle.x86_operands.specs.Vocabulary.{has_r, has_w, repnz, rep}
-use Rattle.x86_operands.specs.RowVocabulary.{RowSize, Bytes, Of, Names, FormRow, Place, Register, Reg, When, Rm, ByRm}
+use Rattle.x86_operands.specs.Vocabulary.{Prefixes, Size, OperandEncoding, Position, Nowhere, TableRow, Template, BadOpcode, AtModRM, reg_field, is_memory}
+use Rattle.x86_operands.specs.Vocabulary.{RegisterClass, Fault, Incomplete, Moment, Verdict, Refuses, width_of, has_r, has_w, repnz, rep}
+use Rattle.x86_operands.specs.RowVocabulary.{Names, Place, Register, Reg, When, Rm, ByRm, TemplateRow}
 use Rattle.x86_operands.specs.Words.{otherwise}
 use Rattle.x86_forms.specs.Words.{carried}
-use Rattle.x86_operands.specs.Plans.{is_refusal, list_of}
+use Rattle.x86_operands.specs.Plans.{Plan, is_refusal}
 use Rattle.x86_operands.specs.Pieces.{is_modrm_encoding}
 use Rattle.x86_operands.specs.declared.sizing.Size.TheVariants as size
 use Rattle.x86_operands.specs.declared.plans.OperandEncoding.TheVariants as encoding
-use Rattle.x86_operands.specs.Asks.{immediate_width, immediates_width}
-use Rattle.x86_operands.specs.Encodings.{all_settled, settled, size_bytes}
-use Rattle.x86_operands.specs.Columns.{choose, row_bytes, opcode_of, plan_of_row, is_there, is_placed, is_reg, is_rm, is_prefixed, is_named}
+use Rattle.x86_operands.specs.Asks.{immediate_width, immediates_width, part_width}
+use Rattle.x86_operands.specs.Encodings.{settled, size_bytes}
+use Rattle.x86_operands.specs.Templates.{is_sound, size_at}
+use Rattle.x86_operands.specs.Columns.{choose, opcode_of, plan_of_row, is_there, is_placed, is_reg, is_rm, is_prefixed, is_named}
 use Rattle.x86_operands.specs.declared.rows.Rm.TheVariants as rms
 use Rattle.x86_operands.specs.declared.rows.When.TheVariants as when
+use Rattle.x86_operands.proofs.TemplateLemmas.{row_encodings, row_width}
 
 -- ---- what each row has, the first has
 
-if_has : (P : FormRow → Type 0) (b : Bool) (x y : FormRow) → (b ≡ true → P x) → P y → P (if b then x else y)
+if_has : (P : TemplateRow → Type 0) (b : Bool) (x y : TemplateRow) → (b ≡ true → P x) → P y → P (if b then x else y)
 if_has P true x y f g = f refl
 if_has P false x y f g = g
 
-pub chosen_has : (P : FormRow → Type 0) (test : FormRow → Bool) (own : TableRow) (strict : Bool) (p : Prefixes) (m : ℕ) →
-    P (otherwise BadOpcode AtModRM) → ((row : FormRow) → test row ≡ true → is_there row own strict p m ≡ true → P row) →
-    (rows : List FormRow) → list_all test rows ≡ true → P (choose rows own strict p m)
+pub chosen_has : (P : TemplateRow → Type 0) (test : TemplateRow → Bool) (own : TableRow) (strict : Bool) (p : Prefixes) (m : ℕ) →
+    P (otherwise BadOpcode AtModRM) → ((row : TemplateRow) → test row ≡ true → is_there row own strict p m ≡ true → P row) →
+    (rows : List TemplateRow) → list_all test rows ≡ true → P (choose rows own strict p m)
 chosen_has P test own strict p m blank each [] h = blank
 chosen_has P test own strict p m blank each (row ∷ rest) h =
     let parts = and_parts (test row) (list_all test rest) h in
@@ -37,9 +37,9 @@ chosen_has P test own strict p m blank each (row ∷ rest) h =
 
 -- ---- rows that are there alike are chosen alike
 
-module _ (test : FormRow → Bool) (own : TableRow) (s t : Bool) (p q : Prefixes) (m n : ℕ)
-    (same : (row : FormRow) → test row ≡ true → is_there row own s p m ≡ is_there row own t q n) where
-  pub chosen_alike : (rows : List FormRow) → list_all test rows ≡ true → choose rows own s p m ≡ choose rows own t q n
+module _ (test : TemplateRow → Bool) (own : TableRow) (s t : Bool) (p q : Prefixes) (m n : ℕ)
+    (same : (row : TemplateRow) → test row ≡ true → is_there row own s p m ≡ is_there row own t q n) where
+  pub chosen_alike : (rows : List TemplateRow) → list_all test rows ≡ true → choose rows own s p m ≡ choose rows own t q n
   chosen_alike [] h = refl
   chosen_alike (row ∷ rest) h =
       let parts = and_parts (test row) (list_all test rest) h in
@@ -67,7 +67,7 @@ abbrev pub is_register : Place → Bool
 is_register Register = true
 is_register place = false
 
-pub row_absent : (row : FormRow) (own : TableRow) (strict : Bool) (p : Prefixes) (m : ℕ) → is_register row.at.place ≡ true →
+pub row_absent : (row : TemplateRow) (own : TableRow) (strict : Bool) (p : Prefixes) (m : ℕ) → is_register row.at.place ≡ true →
     is_memory m ≡ true → is_there row own strict p m ≡ false
 row_absent row own strict p m h e = and_left (is_placed row.at.place m) _ (grind arith)
 
@@ -81,7 +81,7 @@ no_rm_names (ByRm names) = false
 no_rm_names names = true
 
 -- a row of the register form, or one that is chosen by neither rm nor B
-abbrev pub rm_free : FormRow → Bool
+abbrev pub rm_free : TemplateRow → Bool
 rm_free row = is_register row.at.place || (no_b row.when && (no_rm row.at.rm && no_rm_names row.names))
 
 module _ (p q : Prefixes) (m n : ℕ) (h : SamePrefixes p q) (mm : is_memory m ≡ true) (nm : is_memory n ≡ true) (same : reg_field m ≡ reg_field n) where
@@ -97,7 +97,7 @@ module _ (p q : Prefixes) (m n : ℕ) (h : SamePrefixes p q) (mm : is_memory m �
   placed_alike : (place : Place) → is_placed place m ≡ is_placed place n
   placed_alike place = grind arith
 
-  pub there_alike : (own : TableRow) (strict : Bool) (row : FormRow) → rm_free row ≡ true → is_there row own strict p m ≡ is_there row own strict q n
+  pub there_alike : (own : TableRow) (strict : Bool) (row : TemplateRow) → rm_free row ≡ true → is_there row own strict p m ≡ is_there row own strict q n
   there_alike own strict row free = elim (or_cases (is_register row.at.place) (no_b row.when && (no_rm row.at.rm && no_rm_names row.names)) free) [
     | inl is ↦ row_absent row own strict p m is mm ∙ sym (row_absent row own strict q n is nm)
     | inr rest ↦
@@ -124,15 +124,12 @@ has_gap (Refuses fault moment) = is_gap fault
 has_gap verdict = false
 
 -- the immediates have at most 8 bytes together
-unfoldable pub narrow : OperandEncodings → Bool
-narrow encodings = nat_lt (immediates_width encodings) 9
+unfoldable pub narrow : Plan → Bool
+narrow plan = nat_lt (immediates_width plan) 9
 
 -- A plan has no gap, unless gaps are passed, its size is at most 64, and its immediates have at most 8 bytes.
 unfoldable pub passes : Bool → Plan → Bool
-passes gaps plan = ((gaps || not (has_gap plan.verdict)) && nat_lt plan.size 65) && narrow plan.encodings
-
-pub small_if : (b : Bool) (x y : ℕ) → nat_lt x 65 ≡ true → nat_lt y 65 ≡ true → nat_lt (if b then x else y) 65 ≡ true
-small_if b x y h k = grind arith
+passes gaps plan = ((gaps || not (has_gap plan.verdict)) && nat_lt plan.size 65) && narrow plan
 
 pub small_width : (c : RegisterClass) → nat_lt (width_of c) 65 ≡ true
 small_width c = search rules
@@ -143,7 +140,7 @@ module _ (gaps : Bool) (plan : Plan) (h : passes gaps plan ≡ true) where
   unfolding passes
   at_most_64 = grind (arith, nat_tests)
 
-  pub at_most_8 : immediates_width plan.encodings ≤ 8
+  pub at_most_8 : immediates_width plan ≤ 8
   unfolding passes narrow
   at_most_8 = grind (arith, nat_tests)
 
@@ -155,10 +152,6 @@ without_gap plan w h e =
 
 -- ---- sizes, immediates and gaps
 
-abbrev pub small_bytes : RowSize → Bool
-small_bytes (Bytes n) = nat_lt n 65
-small_bytes size = true
-
 -- how many bytes of immediate an operand of a row has at most in a plan
 abbrev pub most : OperandEncoding → ℕ
 most encoding.Iv = 4
@@ -168,40 +161,45 @@ most encoding.Jv = 4
 most encoding.Offset = 8
 most s = immediate_width s
 
-abbrev pub few : OperandEncodings → Bool
-few operands = nat_lt (total (map most (list_of operands))) 9
+abbrev pub few : Template → Bool
+few t = nat_lt (most t.last + most t.extra) 9
 
--- no gap, unless gaps are passed, small sizes, and few immediates
-abbrev pub row_fits : Bool → FormRow → Bool
-row_fits gaps row = (gaps || not (has_gap row.verdict)) && (small_bytes row.in_memory && (small_bytes row.in_register && few row.operands))
+-- no gap, unless gaps are passed, and few immediates
+abbrev pub row_fits : Bool → TemplateRow → Bool
+row_fits gaps row = (gaps || not (has_gap row.verdict)) && (is_sound row.template && few row.template)
 
 settled_most : (s : OperandEncoding) (n : ℕ) (p : Prefixes) → immediate_width (settled s n p) ≤ most s
 settled_most s n p = grind arith
 
-settled_narrow : (operands : OperandEncodings) (n : ℕ) (p : Prefixes) → few operands ≡ true → narrow (all_settled operands n p) ≡ true
+part_most : (at : Position) (s : OperandEncoding) (n : ℕ) (p : Prefixes) → part_width at (settled s n p) ≤ most s
+part_most Nowhere s n p = omega arith
+part_most at s n p = settled_most s n p
+
+narrow_by : (k a b c d : ℕ) → k ≡ a + b → a ≤ c → b ≤ d → nat_lt (c + d) 9 ≡ true → nat_lt k 9 ≡ true
+narrow_by k a b c d e last extra h = grind (arith, nat_tests)
+
+row_narrow : (row : TemplateRow) (own : TableRow) (p : Prefixes) (m : ℕ) → is_sound row.template ≡ true → few row.template ≡ true →
+    narrow (plan_of_row row own p m) ≡ true
 unfolding narrow
-settled_narrow operands n p h = grind (arith, nat_tests, settled_most)
+row_narrow row own p m sound h =
+    let t = row.template in
+    let n = carried own.form in
+    narrow_by (immediates_width (plan_of_row row own p m)) (part_width t.order.last (settled t.last n p)) (part_width t.order.extra (settled t.extra n p))
+    (most t.last) (most t.extra) (row_width row own p m sound) (part_most t.order.last t.last n p) (part_most t.order.extra t.extra n p) h
 
-bytes_small : (s : RowSize) (o : ℕ) (p : Prefixes) → small_bytes s ≡ true → nat_lt (row_bytes s o p) 65 ≡ true
-bytes_small (Bytes n) o p h = h
-bytes_small (Of size.FarPointer) o p h = grind arith
-bytes_small (Of s) o p h = grind (arith, small_width)
+size_small : (s : Size) (o : ℕ) (p : Prefixes) → nat_lt (size_bytes s o p) 65 ≡ true
+size_small size.FarPointer o p = grind arith
+size_small s o p = grind (arith, small_width)
 
-row_passes : (gaps : Bool) (row : FormRow) (own : TableRow) (p : Prefixes) (m : ℕ) → row_fits gaps row ≡ true → passes gaps (plan_of_row row own p m) ≡ true
+row_passes : (gaps : Bool) (row : TemplateRow) (own : TableRow) (p : Prefixes) (m : ℕ) → row_fits gaps row ≡ true → passes gaps (plan_of_row row own p m) ≡ true
 unfolding passes
 row_passes gaps row own p m h =
-    let sizes = and_parts (gaps || not (has_gap row.verdict)) _ h in
-    let register = and_parts (small_bytes row.in_memory) _ sizes.1 in
-    let operands = and_parts (small_bytes row.in_register) _ register.1 in
-    rw (
-      sizes.0,
-      small_if (is_memory m) _ _ (bytes_small row.in_memory own.opcode p register.0)
-          (bytes_small row.in_register own.opcode p operands.0),
-      settled_narrow row.operands (carried own.form) p operands.1,
-    ) refl
+    let parts = and_parts (gaps || not (has_gap row.verdict)) _ h in
+    let rest = and_parts (is_sound row.template) (few row.template) parts.1 in
+    rw (parts.0, size_small (size_at row.template m) own.opcode p, row_narrow row own p m rest.0 rest.1) refl
 
 -- the plan of the first of rows that fit
-pub rows_pass : (gaps : Bool) (rows : List FormRow) (own : TableRow) (strict : Bool) (p : Prefixes) (m : ℕ) →
+pub rows_pass : (gaps : Bool) (rows : List TemplateRow) (own : TableRow) (strict : Bool) (p : Prefixes) (m : ℕ) →
     list_all (row_fits gaps) rows ≡ true → passes gaps (plan_of_row (choose rows own strict p m) own p m) ≡ true
 rows_pass gaps rows own strict p m h =
     row_passes gaps (choose rows own strict p m) own p m
@@ -217,48 +215,41 @@ rm_free_encoding (encoding.A w) = false
 rm_free_encoding s = true
 
 -- nothing of it goes by rm, X or B; and it refuses, or has a memory operand
-abbrev pub in_memory : FormRow → Bool
-in_memory row = no_rm_names row.names && (list_all rm_free_encoding (list_of row.operands)
-    && (is_refusal row.verdict || list_any is_modrm_encoding (list_of row.operands)))
+abbrev pub in_memory : TemplateRow → Bool
+in_memory row = no_rm_names row.names && (list_all rm_free_encoding (row_encodings row)
+    && (is_refusal row.verdict || list_any is_modrm_encoding (row_encodings row)))
 
-abbrev pub row_in_memory : FormRow → Bool
+abbrev pub row_in_memory : TemplateRow → Bool
 row_in_memory row = is_register row.at.place || in_memory row
 
 -- what holds of rows with ModRM
-abbrev pub keeps_reg : FormRow → Bool
+abbrev pub keeps_reg : TemplateRow → Bool
 keeps_reg row = rm_free row && row_in_memory row
 
 settled_alike : (s : OperandEncoding) (n : ℕ) (p q : Prefixes) → SamePrefixes p q → settled s n p ≡ settled s n q
 settled_alike s n p q h = grind arith
 
-all_settled_alike : (operands : OperandEncodings) (n : ℕ) (p q : Prefixes) → SamePrefixes p q → all_settled operands n p ≡ all_settled operands n q
-all_settled_alike operands n p q h = grind (arith, settled_alike)
-
 size_alike : (s : Size) (o : ℕ) (p q : Prefixes) → SamePrefixes p q → size_bytes s o p ≡ size_bytes s o q
 size_alike s o p q h = grind arith
 
 module _ (own : TableRow) (p q : Prefixes) (m n : ℕ) (h : SamePrefixes p q) where
-  bytes_alike : (s : RowSize) (o : ℕ) → row_bytes s o p ≡ row_bytes s o q
-  bytes_alike (Of s) o = size_alike s o p q h
-  bytes_alike s o = refl
-
   opcode_alike : (names : Names) → reg_field m ≡ reg_field n → no_rm_names names ≡ true → opcode_of names own m ≡ opcode_of names own n
   opcode_alike names same e = grind arith
 
-  pub plan_alike : (row : FormRow) → reg_field m ≡ reg_field n → is_memory m ≡ is_memory n → in_memory row ≡ true →
+  pub plan_alike : (row : TemplateRow) → reg_field m ≡ reg_field n → is_memory m ≡ is_memory n → in_memory row ≡ true →
       plan_of_row row own p m ≡ plan_of_row row own q n
   plan_alike row same mem e =
       let x = and_parts (no_rm_names row.names) _ e in
       rw (
         opcode_alike row.names same x.0,
-        all_settled_alike row.operands (carried own.form) p q h,
-        bytes_alike row.in_memory own.opcode,
-        bytes_alike row.in_register own.opcode,
+        settled_alike row.template.last (carried own.form) p q h,
+        settled_alike row.template.extra (carried own.form) p q h,
         mem,
+        size_alike (size_at row.template n) own.opcode p q h,
       ) refl
 
 -- in the memory form the first row refuses, or has a memory operand
-pub first_in_memory : (rows : List FormRow) (own : TableRow) (strict : Bool) (p : Prefixes) (m : ℕ) → list_all keeps_reg rows ≡ true →
+pub first_in_memory : (rows : List TemplateRow) (own : TableRow) (strict : Bool) (p : Prefixes) (m : ℕ) → list_all keeps_reg rows ≡ true →
     is_memory m ≡ true → in_memory (choose rows own strict p m) ≡ true
 first_in_memory rows own strict p m h mem =
     chosen_has (λ row. in_memory row ≡ true) keeps_reg own strict p m refl
@@ -267,7 +258,7 @@ first_in_memory rows own strict p m h mem =
       | inr e ↦ e
     ]) rows h
 
-pub rows_alike : (rows : List FormRow) (own : TableRow) (strict : Bool) (p q : Prefixes) (m n : ℕ) → list_all keeps_reg rows ≡ true →
+pub rows_alike : (rows : List TemplateRow) (own : TableRow) (strict : Bool) (p q : Prefixes) (m n : ℕ) → list_all keeps_reg rows ≡ true →
     SamePrefixes p q → is_memory m ≡ true → is_memory n ≡ true → reg_field m ≡ reg_field n →
     plan_of_row (choose rows own strict p m) own p m ≡ plan_of_row (choose rows own strict q n) own q n
 rows_alike rows own strict p q m n kept h mm nm same =

@@ -1,13 +1,13 @@
 -- The heads of the forms, and where their rows are in the table.
 use Rattle.std.proofs.Common.{◌≡◌, ◌<◌, ◌+◌, ◌-◌, nat_le, nat_lt, ℕ, Bool, true, false, not, ◌&&◌, ◌||◌, if◌then◌else◌, Option, None, Some}
-use Rattle.std.proofs.Common.{slice_get, List, [], ◌∷◌, map, length, take, drop, get_or, refl, sym, ap, subst, ◌∙◌, arith}
+use Rattle.std.proofs.Common.{slice_get, List, [], ◌∷◌, length, take, drop, get_or, refl, sym, ap, subst, ◌∙◌, arith}
 use Rattle.std.specs.List.{list_all}
 use Rattle.std.specs.Option.{option_map_or}
 use Rattle.std.proofs.lemmas.Bool.{and_parts, ltb-true}
 use Rattle.std.proofs.lemmas.List.Elements.{All-get_or}
 use Rattle.std.proofs.lemmas.List.Sums.{AllPass-from_list_all}
 use Rattle.x86_operands.specs.Vocabulary.{After, BadOpcode, AtModRM, EitherForm, Absent, Form, Head, ModrmUse, Prefixes, TableRow, is_memory, reg_field}
-use Rattle.x86_operands.specs.RowVocabulary.{FormRow, Names, Own, Place, Reg, TemplateRow}
+use Rattle.x86_operands.specs.RowVocabulary.{Names, Own, Place, Reg, TemplateRow}
 use Rattle.x86_forms.specs.declared.Form.TheVariants as form
 use Rattle.x86_forms.specs.declared.words.WordRow.{WordRow}
 use Rattle.x86_forms.specs.Groups.{is_group}
@@ -20,7 +20,8 @@ use Rattle.x86_operands.specs.declared.tables.TheConstants.{HEADS, ROWS, SPANS}
 use Rattle.x86_operands.specs.Columns.{is_named, is_placed, is_there, opcode_of, plan_of_row}
 use Rattle.x86_operands.specs.Forms.{Follows, IsPlainRow, form_plan, is_direct, is_searched, modrm_use, place_use, rows_use}
 use Rattle.x86_operands.specs.Rows.{form_rows}
-use Rattle.x86_operands.specs.Templates.{form_row, is_read_at, is_sound_row, template_plan}
+use Rattle.x86_operands.specs.Plans.{template_plan}
+use Rattle.x86_operands.specs.Templates.{is_read_at, is_sound_row}
 use Rattle.x86_operands.specs.Words.{otherwise}
 use Rattle.x86_operands.proofs.SureLemmas.{at_names, at_place, at_reg, first_chosen, first_of, is_read, is_sure, may_be, plan_is, present}
 
@@ -29,7 +30,7 @@ use Rattle.x86_operands.proofs.SureLemmas.{at_names, at_place, at_reg, first_cho
 pub record IsSpan (f : Form) (span : ℕ × ℕ) : Type 0 where
   pub ordered : nat_le span.0 span.1 ≡ true
   pub inside : nat_le span.1 (length ROWS.now) ≡ true
-  pub rows : map form_row (take (span.1 - span.0) (drop span.0 ROWS.now)) ≡ form_rows f
+  pub rows : take (span.1 - span.0) (drop span.0 ROWS.now) ≡ form_rows f
   pub sound : list_all is_sound_row (take (span.1 - span.0) (drop span.0 ROWS.now)) ≡ true
 
 pub span_at : (f : Form) (d : ℕ × ℕ) → IsSpan f (get_or SPANS.now (first_ordinal_of f) d)
@@ -38,12 +39,12 @@ span_at (form.Zv_R n) d = record { ordered = refl; inside = refl; rows = refl; s
 span_at f d = record { ordered = refl; inside = refl; rows = refl; sound = refl }
 
 -- how the form uses a ModRM byte
-pub no_first_use : (rows : List TemplateRow) (f : Form) → map form_row rows ≡ form_rows f → slice_get rows 0 ≡ None → modrm_use f ≡ Absent
+pub no_first_use : (rows : List TemplateRow) (f : Form) → rows ≡ form_rows f → slice_get rows 0 ≡ None → modrm_use f ≡ Absent
 unfolding modrm_use
 no_first_use [] f e h = ap rows_use (sym e)
 no_first_use (row ∷ rest) f e h = absurd cc
 
-pub first_use : (rows : List TemplateRow) (f : Form) (row : TemplateRow) → map form_row rows ≡ form_rows f → slice_get rows 0 ≡ Some row →
+pub first_use : (rows : List TemplateRow) (f : Form) (row : TemplateRow) → rows ≡ form_rows f → slice_get rows 0 ≡ Some row →
     modrm_use f ≡ place_use row.at.place
 unfolding modrm_use
 first_use [] f row e h = absurd cc
@@ -88,11 +89,11 @@ heads_follow (form.Zv_R n) z = refl
 heads_follow f z = refl
 
 -- the row is the first of the form's
-abbrev blank : FormRow
+abbrev blank : TemplateRow
 blank = otherwise BadOpcode AtModRM
 
 heads_are : (f : Form) (z : Head) (d : TemplateRow) →
-    (if is_direct (head_of f z).after then form_row (row_of (head_of f z) d) else blank) ≡
+    (if is_direct (head_of f z).after then row_of (head_of f z) d else blank) ≡
     (if is_direct (head_of f z).after then first_of (form_rows f) else blank)
 unfolding form_rows
 heads_are (form.Zv_R n) z d = refl
@@ -198,16 +199,16 @@ any_at r k h = grind arith
 place_at : (place : Place) (m : ℕ) → is_placed place m ≡ true → at_place place (is_memory m) ≡ true
 place_at place m h = grind arith
 
-bare_use : (rows : List FormRow) (row : FormRow) → first_of rows ≡ row → row.at.place ≡ Place.Bare → rows_use rows ≡ Absent
+bare_use : (rows : List TemplateRow) (row : TemplateRow) → first_of rows ≡ row → row.at.place ≡ Place.Bare → rows_use rows ≡ Absent
 bare_use [] row e h = refl
 bare_use (first ∷ rest) row e h = rw (e, h) refl
 
-module _ (found : WordRow) (m : ℕ) (row : TemplateRow) (first : form_row row ≡ first_of (form_rows found.row.form))
+module _ (found : WordRow) (m : ℕ) (row : TemplateRow) (first : row ≡ first_of (form_rows found.row.form))
     (head : is_head_row row (carries found.row.form) ≡ true) (placed : is_placed row.at.place m ≡ true)
     (bare : modrm_use found.row.form ≡ Absent → is_memory m ≡ false) where
   no_memory : row.at.place ≡ Place.Bare → is_memory m ≡ false
   unfolding modrm_use
-  no_memory e = bare (bare_use (form_rows found.row.form) (form_row row) (sym first) e)
+  no_memory e = bare (bare_use (form_rows found.row.form) row (sym first) e)
 
   numbered : (carrying of_opcode : Bool) → carries found.row.form ≡ carrying → (carrying || not of_opcode) ≡ true → of_opcode ≡ true →
       found.number ≡ carried found.row.form
@@ -232,7 +233,7 @@ module _ (found : WordRow) (m : ℕ) (row : TemplateRow) (first : form_row row �
   pub plain_read : is_read_at row.template m ≡ true
   plain_read = is_read row m (and_parts (is_sure row) (is_own row.names) (and_parts (is_sure row && is_own row.names) _ head).0).0 placed no_memory
 
-direct_if : (after : Bool) (x y z : FormRow) → (if after then x else z) ≡ (if after then y else z) → after ≡ true → x ≡ y
+direct_if : (after : Bool) (x y z : TemplateRow) → (if after then x else z) ≡ (if after then y else z) → after ≡ true → x ≡ y
 direct_if true x y z h e = h
 direct_if false x y z h e = absurd cc
 
@@ -253,8 +254,8 @@ plain_at found m z d direct placed bare =
     let same = head_at f found.form_number z found.fits found.form_number_is in
     let is : is_direct (head_of f z).after ≡ true = rw same at direct in
     let row : TemplateRow = row_of (head_of f z) d in
-    let first : form_row row ≡ first_of (form_rows f) =
-    direct_if (is_direct (head_of f z).after) (form_row row) (first_of (form_rows f)) blank (heads_are f z d) is in
+    let first : row ≡ first_of (form_rows f) =
+    direct_if (is_direct (head_of f z).after) row (first_of (form_rows f)) blank (heads_are f z d) is in
     let head : is_head_row row (carries f) ≡ true = direct_or (is_direct (head_of f z).after) (is_head_row row (carries f)) (heads_are_sure f z d) is in
     let here : is_placed row.at.place m ≡ true = rw same at placed in
     subst (λ head. IsPlainRow found m (row_of head d).template) (sym same)

@@ -9,11 +9,11 @@ use Rattle.x86_regs.specs.declared.RegisterClass.TheVariants as class
 use Rattle.x86_fields.specs.Raw.{read_raw}
 use Rattle.x86_fields.specs.Steps.{Step, Outcome, outcome, then_from, pure, ◌>>=◌}
 use Rattle.x86_operands.specs.PlanSteps.{read_plan, read_memory, filled_step, operands_step, operand_step, known_operand}
-use Rattle.x86_operands.specs.Plans.{list_of}
+use Rattle.x86_operands.specs.Plans.{template_plan}
 use Rattle.x86_operands.specs.Operands.{shape}
-use Rattle.x86_operands.specs.Encodings.{all_settled, settled, size_bytes}
+use Rattle.x86_operands.specs.Encodings.{settled, size_bytes}
 use Rattle.x86_operands.specs.Templates.{encodings_in, fits_form, fixed_encoding, index_of_position, is_field, is_last, is_order, is_stack}
-use Rattle.x86_operands.specs.Templates.{template_operands, reg_encoding, reg_part, rm_encoding, size_at, somewhere, template_plan}
+use Rattle.x86_operands.specs.Templates.{reg_encoding, reg_part, rm_encoding, size_at, somewhere}
 use Rattle.x86_operands.specs.RowSteps.{skipped_if}
 use Rattle.x86_operands.specs.OperandList.{encoded_read, put_encoded, put_in, placed, reg_pair, rm_pair, fixed_pair, reading_with, rm_read}
 use Rattle.x86_operands.specs.OperandList.{sized, value_if_ok, last_read, leading_read, operands_read, other_read, all_read}
@@ -45,20 +45,6 @@ part_yields : (rm of_opcode : Bool) (w : Width) (n : ℕ) (p : Prefixes) (m : �
 part_yields true of_opcode w n p m memory s = reg_yields w p m memory s
 part_yields false of_opcode w n p m memory s = fixed_yields of_opcode w n p m memory s
 
-reg_settled : (w : Width) (n : ℕ) (p : Prefixes) → settled (reg_encoding w) n p ≡ reg_encoding w
-reg_settled w n p = grind arith
-
-rm_settled : (w : Width) (n : ℕ) (p : Prefixes) → settled (rm_encoding w) n p ≡ rm_encoding w
-rm_settled w n p = grind arith
-
-fixed_settled : (of_opcode : Bool) (w : Width) (n : ℕ) (p : Prefixes) → settled (fixed_encoding of_opcode w 0) n p ≡ fixed_encoding of_opcode w n
-fixed_settled of_opcode w n p = grind arith
-
-part_settled : (rm of_opcode : Bool) (w : Width) (n : ℕ) (p : Prefixes) →
-    settled (if rm then reg_encoding w else fixed_encoding of_opcode w 0) n p ≡ (if rm then reg_encoding w else fixed_encoding of_opcode w n)
-part_settled true of_opcode w n p = reg_settled w n p
-part_settled false of_opcode w n p = fixed_settled of_opcode w n p
-
 -- ---- the last operands, which look at no memory
 
 memory_free : (c : OperandEncoding) (n : ℕ) (p : Prefixes) (m : ℕ) (memory : Option Raw) (s : State ℕ) → is_field c ≡ false →
@@ -83,7 +69,7 @@ in_order : (u v : Result Pair DecodeError) {o : Order} → Named o →
     ((s : State ℕ) → operand_step a p m memory s ≡ outcome (Ok x) s) →
     ((s : State ℕ) → operand_step b p m memory s ≡ outcome (Ok y) s) →
     (s : State ℕ) → operand_step c p m memory s ≡ outcome u t → operand_step d p m memory t ≡ outcome v w →
-    (filled_step (list_of (encodings_in o a b c d)) p m memory >>= λ operand_list. pure (with_size size operand_list)) s ≡ in_place o u t v w x y size s
+    (filled_step (encodings_in o a b c d) p m memory >>= λ operand_list. pure (with_size size operand_list)) s ≡ in_place o u t v w x y size s
 unfolding filled_step operands_step
 in_order (Ok z) (Ok f) no_named t w a b c d x y size p m memory ha hb s hc hd = refl
 in_order (Ok z) (Err f) no_named t w a b c d x y size p m memory ha hb s hc hd = refl
@@ -91,11 +77,6 @@ in_order (Err z) v no_named t w a b c d x y size p m memory ha hb s hc hd = refl
 in_order (Ok z) (Ok f) h t w a b c d x y size p m memory ha hb s hc hd = simp (ha, hb, hc, hd)
 in_order (Ok z) (Err f) h t w a b c d x y size p m memory ha hb s hc hd = simp (ha, hb, hc, hd)
 in_order (Err z) v h t w a b c d x y size p m memory ha hb s hc hd = simp (ha, hb, hc)
-
-settled_in : {o : Order} → Named o → (n : ℕ) (p : Prefixes) (a b c d : OperandEncoding) →
-    list_of (all_settled (encodings_in o a b c d) n p) ≡ list_of (encodings_in o (settled a n p) (settled b n p) (settled c n p) (settled d n p))
-settled_in no_named n p a b c d = refl
-settled_in h n p a b c d = refl
 
 -- what is put is what is read
 abbrev put_other : Position → OperandEncoding → Prefixes → ℕ → Operands → Step Operands
@@ -124,20 +105,13 @@ bound_once f k (Err e) s = refl
 
 module _ (t : Template) (n : ℕ) (p : Prefixes) (m : ℕ) (size : ℕ) where
   abbrev encodings : List OperandEncoding
-  encodings = list_of (all_settled (template_operands t) n p)
+  encodings = encodings_in t.order (reg_part t n) (rm_encoding t.rm) (settled t.last n p) (settled t.extra n p)
 
   abbrev blank : Operands
   blank = sized t.order.count size
 
   abbrev others : Operands → Step Operands
   others operand_list = other_read t.order.last t.last n p m operand_list >>= other_read t.order.extra t.extra n p m
-
-  encodings_are : Named t.order → encodings ≡ list_of (encodings_in t.order (reg_part t n) (rm_encoding t.rm) (settled t.last n p) (settled t.extra n p))
-  encodings_are h =
-      settled_in h n p (reg_part t 0) (rm_encoding t.rm) t.last t.extra
-      ∙ ap (λ a. list_of (encodings_in t.order a (settled (rm_encoding t.rm) n p) (settled t.last n p) (settled t.extra n p)))
-      (part_settled (somewhere t.order.rm) t.of_opcode t.reg n p)
-      ∙ ap (λ b. list_of (encodings_in t.order (reg_part t n) b (settled t.last n p) (settled t.extra n p))) (rm_settled t.rm n p)
 
   others_are : (operand_list : Operands) (s : State ℕ) → Named t.order →
       (put_other t.order.last (settled t.last n p) p m operand_list >>= put_other t.order.extra (settled t.extra n p) p m) s ≡ others operand_list s
@@ -149,8 +123,7 @@ module _ (t : Template) (n : ℕ) (p : Prefixes) (m : ℕ) (size : ℕ) where
       let orders = named t.order h in
       let one : Outcome Pair = operand_step (settled t.last n p) p m None s in
       let two : Outcome Pair = operand_step (settled t.extra n p) p m None one.after in
-      ap (λ l. (filled_step l p m memory >>= λ operand_list. pure (with_size size operand_list)) s) (encodings_are orders)
-      ∙ in_order one.answer two.answer orders one.after two.after (reg_part t n) (rm_encoding t.rm) (settled t.last n p)
+      in_order one.answer two.answer orders one.after two.after (reg_part t n) (rm_encoding t.rm) (settled t.last n p)
       (settled t.extra n p) (known_operand (reg_part t n) p m memory) (known_operand (rm_encoding t.rm) p m memory) size p m memory
       (part_yields (somewhere t.order.rm) t.of_opcode t.reg n p m memory) (rm_yields t.rm p m memory) s
       (memory_free t.last n p m memory s l) (memory_free t.extra n p m memory one.after e)

@@ -3,12 +3,12 @@ use Rattle.std.proofs.Common.{◌≡◌, ℕ, ◌+◌, ◌++◌, drop, nat_lt, l
 use Rattle.std.proofs.Math.Seq.{drop-append_seam}
 use Rattle.std.proofs.lemmas.Bool.Decides.{nat_tests}
 use Rattle.x86_arch.specs.Reader.{State, advanced}
-use Rattle.x86_operands.specs.Vocabulary.{DecodeError, Prefixes, Plan, Reading, Verdict}
+use Rattle.x86_operands.specs.Vocabulary.{DecodeError, Prefixes, Reading, Verdict}
 use Rattle.x86_fields.specs.Steps.{Step, Outcome, outcome, then_from, pure, ◌>>=◌}
 use Rattle.x86_fields.proofs.StepLemmas.{advanced_twice}
 use Rattle.x86_operands.specs.declared.places.Places.{Places}
 use Rattle.x86_operands.specs.Asks.{modrm_of, uses_suffix}
-use Rattle.x86_operands.specs.Plans.{RowRecord}
+use Rattle.x86_operands.specs.Plans.{Plan, RowRecord}
 use Rattle.x86_operands.specs.PlanSteps.{read_memory, read_modrm, read_plan, record_step, refuse_fault}
 use Rattle.x86_operands.specs.Pieces.{SpellsRow, SpellsTail, suffix_width}
 use Rattle.x86_operands.specs.Places.{Placed, place_of, plan_places, plan_placed, record_placed}

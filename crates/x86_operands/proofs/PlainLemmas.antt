@@ -37,7 +37,7 @@ pub plain_small : (row : TableRow) (p : Prefixes) (m : ℕ) → ((form_record ro
 unfolding form_record
 plain_small row p m = at_most_64 (is_group row.form) (form_plan row p m) (plain_passes row p m)
 
-pub plain_narrow : (row : TableRow) (p : Prefixes) (m : ℕ) → immediates_width ((form_record row p).plan m).encodings ≤ 8
+pub plain_narrow : (row : TableRow) (p : Prefixes) (m : ℕ) → immediates_width ((form_record row p).plan m) ≤ 8
 unfolding form_record
 plain_narrow row p m = at_most_8 (is_group row.form) (form_plan row p m) (plain_passes row p m)
 

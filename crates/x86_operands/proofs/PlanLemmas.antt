@@ -3,7 +3,7 @@ use Rattle.std.proofs.Common.{◌≡◌, ℕ, ◌+◌, Bool, true, false, if◌t
 use Rattle.std.proofs.Common.{Ok, Err, refl, sym, ap, subst, ◌∙◌, length-append, arith}
 use Rattle.std.proofs.lemmas.List.{append-nil}
 use Rattle.x86_operands.specs.Vocabulary.{DecodeError, Prefixes, Raw, Slot, Operand, OperandEncoding, Moment, AtModRM, AfterAddress}
-use Rattle.x86_operands.specs.Vocabulary.{AfterSuffix, Fault, BadOpcode, Verdict, NamedBySuffix, Refuses, Plan, Reading, Operands}
+use Rattle.x86_operands.specs.Vocabulary.{AfterSuffix, Fault, BadOpcode, Verdict, NamedBySuffix, Refuses, Reading, Operands}
 use Rattle.x86_operands.specs.Vocabulary.{is_memory}
 use Rattle.x86_fields.specs.Raw.{read_raw}
 use Rattle.x86_fields.specs.Steps.{Step, pure, ◌>>=◌}
@@ -13,7 +13,7 @@ use Rattle.x86_fields.proofs.EndLemmas.{EndsWell, IsEmpty, Only, ends_pure, ends
 use Rattle.x86_fields.proofs.EndLemmas.{halts_empty, halts_same, over, final_err, bind_assoc}
 use Rattle.x86_fields.proofs.PieceLemmas.{takes_map, ends_raw, takes_raw, halts_raw, raw_long, none_there, more_missing, more_there}
 use Rattle.x86_fields.proofs.PieceLemmas.{FirstPiece, nothing, piece, first_piece, between_nil}
-use Rattle.x86_operands.specs.Plans.{is_refusal, list_of}
+use Rattle.x86_operands.specs.Plans.{Plan, is_refusal, plan_encodings}
 use Rattle.x86_operands.specs.PlanSteps.{operands_step, filled_step, four_of, refuse_at, read_opcode, read_memory, read_plan, reading_from, error_of}
 use Rattle.x86_operands.specs.Asks.{immediate_width}
 use Rattle.x86_operands.specs.Pieces.{SpellsOperands, SpellsMemory, SpellsPieces, SpellsTail, RefusesTail, at_modrm, after_address}
@@ -73,7 +73,7 @@ module _ (plan : Plan) (p : Prefixes) (m : ℕ) where
   Pairs = List (Slot × Operand)
 
   abbrev encodings : List OperandEncoding
-  encodings = list_of plan.encodings
+  encodings = plan_encodings plan
 
   abbrev Yields : List ℕ → Result Reading DecodeError → Type 0
   Yields q r = PlanYields plan p m q r

@@ -1,33 +1,22 @@
 -- A row of the table is read as the plan of its row is.
-use Rattle.std.proofs.Common.{◌≡◌, ℕ, Bool, true, false, not, ◌||◌, if◌then◌else◌, refl, ap, ◌∙◌, Ok, Err, Result, None, Option, true≢false, arith}
+use Rattle.std.proofs.Common.{◌≡◌, ℕ, Bool, true, false, not, ◌||◌, if◌then◌else◌, refl, ap, ◌∙◌, Ok, Err, Result, None, Option, true≢false}
 use Rattle.std.proofs.lemmas.Bool.{and_parts}
 use Rattle.x86_arch.specs.Reader.{State}
 use Rattle.x86_fields.specs.Steps.{Step, Outcome, outcome, then_from, pure, refuse, ◌>>=◌}
 use Rattle.x86_forms.specs.Words.{carried}
-use Rattle.x86_operands.specs.Vocabulary.{DecodeError, Prefixes, Raw, TableRow, Operands, Reading, Size, Fault, Verdict, Refuses, AtModRM}
-use Rattle.x86_operands.specs.Vocabulary.{AfterAddress, AfterSuffix, is_memory}
+use Rattle.x86_operands.specs.Vocabulary.{DecodeError, Prefixes, Raw, TableRow, Operands, Reading, Fault, Verdict, Refuses, AtModRM}
+use Rattle.x86_operands.specs.Vocabulary.{AfterAddress, AfterSuffix}
 use Rattle.x86_operands.specs.RowVocabulary.{TemplateRow}
-use Rattle.x86_operands.specs.declared.sizing.Size.TheVariants as size
-use Rattle.x86_operands.specs.Columns.{opcode_of, plan_of_row, row_bytes}
-use Rattle.x86_operands.specs.Encodings.{all_settled, size_bytes}
+use Rattle.x86_operands.specs.Columns.{opcode_of, plan_of_row}
+use Rattle.x86_operands.specs.Encodings.{size_bytes}
 use Rattle.x86_operands.specs.OperandList.{all_read, leading_read, placed, reading_with, sized}
 use Rattle.x86_operands.specs.PlanSteps.{changed, error_of, read_memory, read_opcode, read_plan, refuse_at}
 use Rattle.x86_operands.specs.Places.{place_of, plan_places}
 use Rattle.x86_operands.specs.Asks.{uses_suffix}
 use Rattle.x86_operands.specs.RowSteps.{early_step, is_early, read_row_step, skipped_if}
-use Rattle.x86_operands.specs.Templates.{form_row, is_sound, is_sound_row, template_operands, row_size, size_at, somewhere}
+use Rattle.x86_operands.specs.Templates.{is_sound, is_sound_row, size_at, somewhere}
 use Rattle.x86_operands.proofs.InPlaceLemmas.{all_is_read}
 use Rattle.x86_operands.proofs.TemplateLemmas.{sound_parts}
-
--- ---- the size
-
-bytes_are : (s : Size) (o : ℕ) (p : Prefixes) → row_bytes (row_size s) o p ≡ size_bytes s o p
-bytes_are s o p = grind arith
-
-pub size_is : (memory : Bool) (a b : Size) (o : ℕ) (p : Prefixes) →
-    (if memory then row_bytes (row_size a) o p else row_bytes (row_size b) o p) ≡ size_bytes (if memory then a else b) o p
-size_is true a b o p = bytes_are a o p
-size_is false a b o p = bytes_are b o p
 
 -- ---- the step of a row
 
@@ -65,13 +54,7 @@ module _ (row : TemplateRow) (own : TableRow) (p : Prefixes) (m : ℕ) where
   all = all_read row.template n p m (sized row.template.order.count bytes)
 
   by_verdict : (v : Verdict) (s : State ℕ) → is_sound row.template ≡ true →
-      read_plan (record {
-        opcode = opcode_of row.names own m;
-        encodings = all_settled (template_operands row.template) n p;
-        size = bytes;
-        change = row.change;
-        verdict = v;
-      }) p m s
+      read_plan (record (plan_of_row row own p m) { verdict = v }) p m s
       ≡ (early v >>= λ _. all >>= ended v) s
   unfolding read_plan
   by_verdict (Refuses fault AtModRM) s h = refl
@@ -83,17 +66,8 @@ module _ (row : TemplateRow) (own : TableRow) (p : Prefixes) (m : ℕ) where
       all_is_read row.template n p m bytes (ended v) parts.order parts.last parts.extra s
       ∙ then_pure (all >>= ended v) skip.answer skip.after
 
-  pub row_is_read : (s : State ℕ) → is_sound_row row ≡ true → read_plan (plan_of_row (form_row row) own p m) p m s ≡ read_row_step row own p m s
-  row_is_read s h =
-      ap (λ bytes. read_plan (record {
-        opcode = opcode_of row.names own m;
-        encodings = all_settled (template_operands row.template) n p;
-        size = bytes;
-        change = row.change;
-        verdict = row.verdict;
-      }) p m s)
-      (size_is (is_memory m) row.template.in_memory row.template.in_register own.opcode p)
-      ∙ by_verdict row.verdict s (and_parts (is_sound row.template) _ h).0
+  pub row_is_read : (s : State ℕ) → is_sound_row row ≡ true → read_plan (plan_of_row row own p m) p m s ≡ read_row_step row own p m s
+  row_is_read s h = by_verdict row.verdict s (and_parts (is_sound row.template) _ h).0
 
   -- ---- the place after the address
 
@@ -146,6 +120,6 @@ module _ (row : TemplateRow) (own : TableRow) (p : Prefixes) (m : ℕ) where
         opcode_end = opcode_end;
         address_end = address_end;
         has_suffix = uses_suffix row.verdict;
-      } ≡ plan_places (plan_of_row (form_row row) own p m) p m s opcode_end
+      } ≡ plan_places (plan_of_row row own p m) p m s opcode_end
   places_are s u opcode_end address_end e h =
       rw (h, ends_by (somewhere row.template.order.rm) s u (sized row.template.order.count bytes) (passes_by row.verdict s u e)) refl

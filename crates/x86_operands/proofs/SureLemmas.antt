@@ -1,10 +1,10 @@
 -- A row that is read at once wherever its form, mod and reg are: where it may be, it is the first that is there.
-use Rattle.std.proofs.Common.{◌≡◌, ℕ, zero, suc, nat_le, ◌==◌, Bool, true, false, not, ◌&&◌, ◌||◌, if◌then◌else◌, List, [], ◌∷◌, map}
-use Rattle.std.proofs.Common.{slice_index_or, refl, sym, ◌∙◌, arith}
+use Rattle.std.proofs.Common.{◌≡◌, ℕ, zero, suc, nat_le, ◌==◌, Bool, true, false, not, ◌&&◌, ◌||◌, if◌then◌else◌, List, [], ◌∷◌}
+use Rattle.std.proofs.Common.{slice_index_or, refl, arith}
 use Rattle.std.proofs.lemmas.Bool.{and_parts}
-use Rattle.x86_operands.specs.Vocabulary.{Prefixes, TableRow, Template, Size, OperandEncoding, Order, Width, Verdict, Accepts, PrefixChange}
-use Rattle.x86_operands.specs.Vocabulary.{Keeps, BadOpcode, AtModRM, reg_field, is_memory}
-use Rattle.x86_operands.specs.RowVocabulary.{FormRow, TemplateRow, Rm, Names, ByReg, Place, Memory, Register, Reg, When}
+use Rattle.x86_operands.specs.Vocabulary.{Prefixes, TableRow, Template, Size, OperandEncoding, Width, Verdict, Accepts, PrefixChange, Keeps}
+use Rattle.x86_operands.specs.Vocabulary.{BadOpcode, AtModRM, reg_field, is_memory}
+use Rattle.x86_operands.specs.RowVocabulary.{TemplateRow, Rm, Names, ByReg, Place, Memory, Register, Reg, When}
 use Rattle.x86_operands.specs.declared.rows.Reg.TheVariants as regs
 use Rattle.x86_operands.specs.declared.rows.Rm.TheVariants as rms
 use Rattle.x86_operands.specs.declared.rows.When.TheVariants as when
@@ -12,13 +12,10 @@ use Rattle.x86_operands.specs.declared.sizing.Size.TheVariants as size
 use Rattle.x86_operands.specs.Words.{otherwise}
 use Rattle.x86_operands.specs.Columns.{choose, is_there, is_placed, is_reg, is_rm, is_prefixed, is_named, name_at, opcode_of, plan_of_row}
 use Rattle.x86_forms.specs.Words.{carried}
-use Rattle.x86_operands.specs.Encodings.{all_settled, settled, size_bytes}
-use Rattle.x86_operands.specs.Templates.{encodings_in, fixed_encoding, form_row, is_last, is_simple, is_read_at, is_register_place}
-use Rattle.x86_operands.specs.Templates.{is_sound, is_sound_row, is_stack, template_operands, reg_encoding, reg_part, rm_encoding, size_at}
-use Rattle.x86_operands.specs.Templates.{somewhere, template_plan}
-use Rattle.x86_operands.proofs.OrderLemmas.{Named, no_named, named}
-use Rattle.x86_operands.proofs.ReadLemmas.{size_is}
-use Rattle.x86_operands.proofs.TemplateLemmas.{sound_parts}
+use Rattle.x86_operands.specs.Encodings.{settled, size_bytes}
+use Rattle.x86_operands.specs.Plans.{template_plan}
+use Rattle.x86_operands.specs.Templates.{fixed_encoding, is_last, is_simple, is_read_at, is_register_place, is_sound, is_sound_row, is_stack}
+use Rattle.x86_operands.specs.Templates.{reg_encoding, size_at, somewhere}
 
 -- ---- where a row may be, by mod and reg
 
@@ -107,14 +104,14 @@ module _ (own : TableRow) (strict : Bool) (p : Prefixes) (m : ℕ) where
       both c d = grind arith
   not_there a b c d e n h k = grind arith
 
-  absent : (row : TemplateRow) → may_be row (is_memory m) (reg_field m) ≡ false → is_there (form_row row) own strict p m ≡ false
+  absent : (row : TemplateRow) → may_be row (is_memory m) (reg_field m) ≡ false → is_there row own strict p m ≡ false
   absent row h =
       rw (place_same row.at.place, reg_same row.at.reg)
       (not_there (at_place row.at.place (is_memory m)) (at_reg row.at.reg (reg_field m)) (is_rm row.at.rm strict m)
       (is_prefixed row.when own p) (is_named row.names m) (at_names row.names (reg_field m)) (unnamed row.names) h)
 
   pub present : (row : TemplateRow) → may_be row (is_memory m) (reg_field m) ≡ true → is_sure row ≡ true → is_named row.names m ≡ true →
-      is_there (form_row row) own strict p m ≡ true
+      is_there row own strict p m ≡ true
   present row h sure name =
       let parts = and_parts (is_always row.when) (any_rm row.at.rm) (and_parts (is_first row) _ sure).0 in
       let here = and_parts (at_place row.at.place (is_memory m)) _ h in
@@ -123,7 +120,7 @@ module _ (own : TableRow) (strict : Bool) (p : Prefixes) (m : ℕ) where
 
   -- the first that may be there, counted from 1; 0 where none may be, or it isn't sure
   abbrev Holds : List TemplateRow → ℕ → TemplateRow → Type 0
-  Holds rows n d = choose (map form_row rows) own strict p m ≡ form_row (slice_index_or rows n d)
+  Holds rows n d = choose rows own strict p m ≡ slice_index_or rows n d
 
 abbrev pub after : ℕ → ℕ
 after zero = zero
@@ -181,37 +178,17 @@ is_read row m sure placed bare =
 
 -- ---- its plan is that of its template
 
-settled_in : {o : Order} → Named o → (n : ℕ) (p : Prefixes) (a b c d : OperandEncoding) →
-    all_settled (encodings_in o a b c d) n p ≡ encodings_in o (settled a n p) (settled b n p) (settled c n p) (settled d n p)
-settled_in no_named n p a b c d = refl
-settled_in h n p a b c d = refl
-
 last_by : (c : OperandEncoding) (n k : ℕ) (p : Prefixes) → is_last c ≡ true → settled c n p ≡ settled c k p
 last_by c n k p h = grind arith
 
-rm_by : (w : Width) (n k : ℕ) (p : Prefixes) → settled (rm_encoding w) n p ≡ settled (rm_encoding w) k p
-rm_by w n k p = grind arith
+fixed_by : (of_opcode : Bool) (w : Width) (n k : ℕ) → (of_opcode ≡ true → n ≡ k) → fixed_encoding of_opcode w n ≡ fixed_encoding of_opcode w k
+fixed_by true w n k same = rw (same refl) refl
+fixed_by false w n k same = refl
 
-field_by : (w : Width) (n k : ℕ) (p : Prefixes) → settled (reg_encoding w) n p ≡ settled (reg_encoding w) k p
-field_by w n k p = grind arith
-
-fixed_by : (of_opcode : Bool) (w : Width) (n k : ℕ) (p : Prefixes) → (of_opcode ≡ true → n ≡ k) →
-    settled (fixed_encoding of_opcode w 0) n p ≡ settled (fixed_encoding of_opcode w 0) k p
-fixed_by true w n k p same = rw (same refl) refl
-fixed_by false w n k p same = refl
-
-reg_by : (rm of_opcode : Bool) (w : Width) (n k : ℕ) (p : Prefixes) → (of_opcode ≡ true → n ≡ k) →
-    settled (if rm then reg_encoding w else fixed_encoding of_opcode w 0) n p ≡ settled (if rm then reg_encoding w else fixed_encoding of_opcode w 0) k p
-reg_by true of_opcode w n k p same = field_by w n k p
-reg_by false of_opcode w n k p same = fixed_by of_opcode w n k p same
-
-operands_by : (t : Template) (n k : ℕ) (p : Prefixes) → is_sound t ≡ true → is_last t.last ≡ true → is_last t.extra ≡ true →
-    (t.of_opcode ≡ true → n ≡ k) → all_settled (template_operands t) n p ≡ all_settled (template_operands t) k p
-operands_by t n k p sound last extra same =
-    let h = named t.order (sound_parts t sound).order in
-    settled_in h n p (reg_part t 0) (rm_encoding t.rm) t.last t.extra
-    ∙ rw (reg_by (somewhere t.order.rm) t.of_opcode t.reg n k p same, rm_by t.rm n k p, last_by t.last n k p last, last_by t.extra n k p extra) refl
-    ∙ sym (settled_in h k p (reg_part t 0) (rm_encoding t.rm) t.last t.extra)
+reg_by : (rm of_opcode : Bool) (w : Width) (n k : ℕ) → (of_opcode ≡ true → n ≡ k) →
+    (if rm then reg_encoding w else fixed_encoding of_opcode w n) ≡ (if rm then reg_encoding w else fixed_encoding of_opcode w k)
+reg_by true of_opcode w n k same = refl
+reg_by false of_opcode w n k same = fixed_by of_opcode w n k same
 
 -- a size that goes by no operation
 abbrev pub is_free : Size → Bool
@@ -254,29 +231,30 @@ kept c h = cc
 pub plan_is : (row : TemplateRow) (own : TableRow) (n o : ℕ) (p : Prefixes) (m : ℕ) → is_sure row ≡ true → opcode_of row.names own m ≡ o →
     (row.template.of_opcode ≡ true → n ≡ carried own.form) →
     size_bytes (size_at row.template m) o p ≡ size_bytes (size_at row.template m) own.opcode p →
-    template_plan row.template n o p m ≡ plan_of_row (form_row row) own p m
+    template_plan row.template n o p m ≡ plan_of_row row own p m
 plan_is row own n o p m sure opcode number size =
     let parts = and_parts (accepts row.verdict && keeps row.change) _ (and_parts (is_first row) (is_at_once row) sure).1 in
     let ends = and_parts (accepts row.verdict) (keeps row.change) parts.0 in
     let plain = and_parts (is_simple row.template && is_last row.template.extra) _ parts.1 in
     let lasts = and_parts (is_simple row.template) (is_last row.template.extra) plain.0 in
-    let sound = and_parts (is_sound row.template) _ (and_parts (is_sound_row row) _ plain.1).0 in
+    let t = row.template in
     rw (
       accepted row.verdict ends.0,
       kept row.change ends.1,
       opcode,
-      operands_by row.template n (carried own.form) p sound.0 (and_parts (is_last row.template.last) _ lasts.0).0 lasts.1 number,
+      reg_by (somewhere t.order.rm) t.of_opcode t.reg n (carried own.form) number,
+      last_by t.last n (carried own.form) p (and_parts (is_last t.last) _ lasts.0).0,
+      last_by t.extra n (carried own.form) p lasts.1,
       size,
-      size_is (is_memory m) row.template.in_memory row.template.in_register own.opcode p,
     ) refl
 
 -- ---- the first row
 
-abbrev pub first_of : List FormRow → FormRow
+abbrev pub first_of : List TemplateRow → TemplateRow
 first_of [] = otherwise BadOpcode AtModRM
 first_of (row ∷ rest) = row
 
-pub first_chosen : (rows : List FormRow) (own : TableRow) (strict : Bool) (p : Prefixes) (m : ℕ) →
+pub first_chosen : (rows : List TemplateRow) (own : TableRow) (strict : Bool) (p : Prefixes) (m : ℕ) →
     is_there (first_of rows) own strict p m ≡ true → choose rows own strict p m ≡ first_of rows
 first_chosen [] own strict p m h = refl
 first_chosen (row ∷ rest) own strict p m h = rw h refl

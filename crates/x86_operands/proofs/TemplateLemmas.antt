@@ -1,18 +1,21 @@
 -- The parts of sound templates, and what they have.
-use Rattle.std.proofs.Common.{◌≡◌, ◌<◌, List, length, get_or, ℕ, ◌+◌, Bool, true, false, not, ◌||◌, if◌then◌else◌, arith, ap}
-use Rattle.std.specs.List.{list_all}
+use Rattle.std.proofs.Common.{◌≡◌, ◌<◌, List, [], ◌∷◌, map, take, length, get_or, ℕ, ◌+◌, ◌==◌, Bool, true, false, not, ◌&&◌, ◌||◌, if◌then◌else◌}
+use Rattle.std.proofs.Common.{arith, refl, sym, ap, ◌∙◌}
+use Rattle.std.specs.List.{list_all, list_any}
 use Rattle.std.proofs.lemmas.Bool.{and_parts}
+use Rattle.std.proofs.lemmas.List.{take-map}
 use Rattle.std.proofs.lemmas.List.Elements.{All-get_or}
 use Rattle.std.proofs.lemmas.List.Sums.{AllPass-from_list_all}
 use Rattle.x86_operands.specs.Vocabulary.{OperandEncoding, Order, Prefixes, Template, Width, ModrmUse, TableRow, is_memory}
 use Rattle.x86_operands.specs.RowVocabulary.{Place, TemplateRow}
-use Rattle.x86_operands.specs.Columns.{is_placed}
-use Rattle.x86_operands.specs.Encodings.{all_settled, settled}
-use Rattle.x86_operands.specs.Templates.{encodings_in, fits_form, fixed_encoding, form_row, is_field, is_last, is_order, is_simple}
-use Rattle.x86_operands.specs.Templates.{is_read_at, is_sound, is_register_place, is_sound_row, is_stack, template_operands, reg_encoding}
+use Rattle.x86_fields.specs.Pieces.{total}
+use Rattle.x86_operands.specs.Columns.{is_placed, plan_of_row}
+use Rattle.x86_operands.specs.Encodings.{settled}
+use Rattle.x86_operands.specs.Plans.{plan_encodings}
+use Rattle.x86_operands.specs.Templates.{encoding_at, encodings_in, letters_in, fits_form, fixed_encoding, index_of_position, is_field, is_last}
+use Rattle.x86_operands.specs.Templates.{is_order, is_simple, is_read_at, is_sound, is_register_place, is_sound_row, is_stack, reg_encoding}
 use Rattle.x86_operands.specs.Templates.{reg_part, rm_encoding, somewhere}
 use Rattle.x86_operands.specs.Asks.{immediate_width, immediates_width, part_width, plan_ask, uses_modrm, uses_suffix}
-use Rattle.x86_operands.specs.Columns.{plan_of_row}
 use Rattle.x86_forms.specs.Words.{carried}
 use Rattle.x86_operands.proofs.OrderLemmas.{Named, no_named, named}
 
@@ -58,37 +61,37 @@ read_parts t m h =
     let forms = and_parts (fits_form t m) (somewhere t.order.rm || not (is_memory m)) rest.1 in
     record { sound = sound_parts t parts.0; last = plain.0; extra = not_true (somewhere t.order.extra) plain.1; form = forms.0; memory = forms.1 }
 
--- ---- what a template has is what its operands have
+-- ---- what a row has
 
-letter_width : (w : Width) (n : ℕ) (p : Prefixes) → immediate_width (settled (reg_encoding w) n p) ≡ 0
-letter_width w n p = grind arith
+letter_width : (w : Width) → immediate_width (reg_encoding w) ≡ 0
+letter_width w = grind arith
 
-fixed_width : (of_opcode : Bool) (w : Width) (n : ℕ) (p : Prefixes) → immediate_width (settled (fixed_encoding of_opcode w 0) n p) ≡ 0
-fixed_width of_opcode w n p = grind arith
+fixed_width : (of_opcode : Bool) (w : Width) (n : ℕ) → immediate_width (fixed_encoding of_opcode w n) ≡ 0
+fixed_width of_opcode w n = grind arith
 
-rm_width : (w : Width) (n : ℕ) (p : Prefixes) → immediate_width (settled (rm_encoding w) n p) ≡ 0
-rm_width w n p = grind arith
+reg_width : (rm of_opcode : Bool) (w : Width) (n : ℕ) → immediate_width (if rm then reg_encoding w else fixed_encoding of_opcode w n) ≡ 0
+reg_width true of_opcode w n = letter_width w
+reg_width false of_opcode w n = fixed_width of_opcode w n
 
-reg_width : (rm of_opcode : Bool) (w : Width) (n : ℕ) (p : Prefixes) →
-    immediate_width (settled (if rm then reg_encoding w else fixed_encoding of_opcode w 0) n p) ≡ 0
-reg_width true of_opcode w n p = letter_width w n p
-reg_width false of_opcode w n p = fixed_width of_opcode w n p
+rm_width : (w : Width) → immediate_width (rm_encoding w) ≡ 0
+rm_width w = grind arith
 
-width_in : {o : Order} → Named o → (n : ℕ) (p : Prefixes) (a b c d : OperandEncoding) → immediate_width (settled a n p) ≡ 0 →
-    immediate_width (settled b n p) ≡ 0 → immediates_width (all_settled (encodings_in o a b c d) n p) ≡ part_width o.last
-    (settled c n p) + part_width o.extra (settled d n p)
-width_in no_named n p a b c d ha hb = omega arith
-width_in h n p a b c d ha hb = omega (arith, ha, hb)
+width_in : {o : Order} → Named o → (a b c d : OperandEncoding) → immediate_width a ≡ 0 → immediate_width b ≡ 0 →
+    total (map immediate_width (encodings_in o a b c d)) ≡ part_width o.last c + part_width o.extra d
+width_in no_named a b c d ha hb = omega arith
+width_in h a b c d ha hb = omega (arith, ha, hb)
 
-pub template_width : (t : Template) (n : ℕ) (p : Prefixes) → is_sound t ≡ true →
-    immediates_width (all_settled (template_operands t) n p) ≡ part_width t.order.last (settled t.last n p) + part_width t.order.extra (settled t.extra n p)
-template_width t n p h =
-    width_in (named t.order (sound_parts t h).order) n p (reg_part t 0) (rm_encoding t.rm) t.last t.extra
-    (reg_width (somewhere t.order.rm) t.of_opcode t.reg n p) (rm_width t.rm n p)
+pub row_width : (row : TemplateRow) (own : TableRow) (p : Prefixes) (m : ℕ) → is_sound row.template ≡ true →
+    immediates_width (plan_of_row row own p m) ≡ part_width row.template.order.last
+    (settled row.template.last (carried own.form) p) + part_width row.template.order.extra (settled row.template.extra (carried own.form) p)
+row_width row own p m h =
+    let t = row.template in
+    let n = carried own.form in
+    width_in (named t.order (sound_parts t h).order) (reg_part t n) (rm_encoding t.rm) (settled t.last n p) (settled t.extra n p)
+    (reg_width (somewhere t.order.rm) t.of_opcode t.reg n) (rm_width t.rm)
 
--- what a row has
 pub row_has_ask : (row : TemplateRow) (usage : ModrmUse) (own : TableRow) (p : Prefixes) (m : ℕ) → is_sound_row row ≡ true →
-    plan_ask usage m (plan_of_row (form_row row) own p m)
+    plan_ask usage m (plan_of_row row own p m)
     ≡ record {
       modrm = uses_modrm usage;
       memory = is_memory m;
@@ -99,4 +102,61 @@ pub row_has_ask : (row : TemplateRow) (usage : ModrmUse) (own : TableRow) (p : P
     }
 row_has_ask row usage own p m h =
     ap (λ n. record { modrm = uses_modrm usage; memory = is_memory m; immediate = n; suffix = uses_suffix row.verdict })
-    (template_width row.template (carried own.form) p (sound_template row h))
+    (row_width row own p m (sound_template row h))
+
+-- ---- a test of operands that goes neither by prefixes nor by the number of the opcode byte
+
+-- the operands of a row, with 0 for that number
+abbrev pub row_encodings : TemplateRow → List OperandEncoding
+row_encodings row = encodings_in row.template.order (reg_part row.template 0) (rm_encoding row.template.rm) row.template.last row.template.extra
+
+four_same : {a b c d u v w x : Bool} → a ≡ u → b ≡ v → c ≡ w → d ≡ x → (n : ℕ) → take n (a ∷ b ∷ c ∷ d ∷ []) ≡ take n (u ∷ v ∷ w ∷ x ∷ [])
+four_same ha hb hc hd n = cc (ha, hb, hc, hd)
+
+module _ (test : OperandEncoding → Bool) where
+  at_same : (x y z : Bool) (a b c d u v w : OperandEncoding) → test a ≡ test u → test c ≡ test v → test d ≡ test w →
+      test (if x then a else (if y then b else (if z then c else d))) ≡ test (if x then u else (if y then b else (if z then v else w)))
+  at_same true y z a b c d u v w reg last extra = reg
+  at_same false true z a b c d u v w reg last extra = refl
+  at_same false false true a b c d u v w reg last extra = last
+  at_same false false false a b c d u v w reg last extra = extra
+
+  same_in : (o : Order) (a b c d u v w : OperandEncoding) → test a ≡ test u → test c ≡ test v → test d ≡ test w →
+      map test (encodings_in o a b c d) ≡ map test (encodings_in o u b v w)
+  same_in o a b c d u v w reg last extra =
+      let at : (k : ℕ) → test (encoding_at o k a b c d) ≡ test (encoding_at o k u b v w) =
+      λ k. at_same (index_of_position o.reg == k) (index_of_position o.rm == k) (index_of_position o.last == k) a b c d u v w reg last extra in
+      sym (take-map test o.count (letters_in o a b c d)) ∙ four_same (at 0) (at 1) (at 2) (at 3) o.count
+      ∙ take-map test o.count (letters_in o u b v w)
+
+  all_by_map : (l : List OperandEncoding) → list_all test l ≡ list_all (λ b. b) (map test l)
+  all_by_map [] = refl
+  all_by_map (s ∷ rest) = ap (λ b. test s && b) (all_by_map rest)
+
+  any_by_map : (l : List OperandEncoding) → list_any test l ≡ list_any (λ b. b) (map test l)
+  any_by_map [] = refl
+  any_by_map (s ∷ rest) = ap (λ b. test s || b) (any_by_map rest)
+
+  module _ (free : (s : OperandEncoding) (n : ℕ) (p : Prefixes) → test (settled s n p) ≡ test s) (row : TemplateRow) (own : TableRow)
+      (p : Prefixes) (m : ℕ) where
+    fixed_same : (of_opcode : Bool) (w : Width) (n : ℕ) → test (fixed_encoding of_opcode w n) ≡ test (fixed_encoding of_opcode w 0)
+    fixed_same true w n = free (fixed_encoding true w 0) n p
+    fixed_same false w n = refl
+
+    reg_same : (rm of_opcode : Bool) (w : Width) (n : ℕ) → test (if rm then reg_encoding w else fixed_encoding of_opcode w n) ≡
+        test (if rm then reg_encoding w else fixed_encoding of_opcode w 0)
+    reg_same true of_opcode w n = refl
+    reg_same false of_opcode w n = fixed_same of_opcode w n
+
+    tests_same : map test (plan_encodings (plan_of_row row own p m)) ≡ map test (row_encodings row)
+    tests_same =
+        let t = row.template in
+        let n = carried own.form in
+        same_in t.order (reg_part t n) (rm_encoding t.rm) (settled t.last n p) (settled t.extra n p) (reg_part t 0) t.last t.extra
+        (reg_same (somewhere t.order.rm) t.of_opcode t.reg n) (free t.last n p) (free t.extra n p)
+
+    pub all_same : list_all test (plan_encodings (plan_of_row row own p m)) ≡ list_all test (row_encodings row)
+    all_same = all_by_map (plan_encodings (plan_of_row row own p m)) ∙ ap (list_all (λ b. b)) tests_same ∙ sym (all_by_map (row_encodings row))
+
+    pub any_same : list_any test (plan_encodings (plan_of_row row own p m)) ≡ list_any test (row_encodings row)
+    any_same = any_by_map (plan_encodings (plan_of_row row own p m)) ∙ ap (list_any (λ b. b)) tests_same ∙ sym (any_by_map (row_encodings row))

@@ -1,16 +1,18 @@
 -- What the pieces of a row yield: tied slots and operands, and the shape of the raw fields.
 use Rattle.std.proofs.Common.{◌≡◌, ℕ, zero, suc, ◌<◌, ◌≤◌, true, List, [], ◌∷◌, length, Option, Some, None, Ok, slice_index_or, refl, sym}
 use Rattle.std.proofs.Common.{ap, subst, ◌∙◌, arith}
-use Rattle.x86_operands.specs.Vocabulary.{Prefixes, Raw, Slot, Operand, OperandEncoding, OperandEncodings, Plan, Reading}
+use Rattle.std.proofs.lemmas.List.{length-take}
+use Rattle.x86_operands.specs.Vocabulary.{Prefixes, Raw, Slot, Operand, OperandEncoding, Reading}
 use Rattle.x86_arch.specs.Reader.{State}
 use Rattle.x86_operands.specs.declared.operands.Slot.TheVariants as slots
 use Rattle.x86_operands.specs.declared.operands.Operand.TheVariants as operands
 use Rattle.x86_operands.specs.Operands.{shape}
-use Rattle.x86_operands.specs.Plans.{RowRecord, list_of}
+use Rattle.x86_operands.specs.Plans.{Plan, RowRecord, plan_encodings}
 use Rattle.x86_operands.specs.PlanSteps.{pair_at, four_of, record_step}
 use Rattle.x86_operands.specs.Pieces.{is_decoded, suits, slot_read, operand_read, AreTied, is_modrm_encoding, names_modrm, encodings_of}
 use Rattle.x86_operands.specs.Pieces.{HasShapeAt, operand_from, SpellsOperands, SpellsMemory, SpellsRow}
 use Rattle.x86_operands.specs.Asks.{modrm_of}
+use Rattle.x86_operands.specs.Templates.{letters_in}
 use Rattle.x86_operands.proofs.RowLemmas.{row_read}
 
 -- ---- one operand
@@ -49,8 +51,8 @@ operands_tied (s ∷ rest) p m memory bytes operand_pairs h =
           (cons_tied (operand_from s p m memory h.immediate) h.others (operand_tied s p m memory h.immediate) t.1),
     )
 
-at_most_four : (ss : OperandEncodings) → length (list_of ss) ≤ 4
-at_most_four ss = grind arith
+pub at_most_four : (plan : Plan) → length (plan_encodings plan) ≤ 4
+at_most_four plan = let l = length-take plan.order.count (letters_in plan.order plan.reg plan.rm plan.last plan.extra) in omega (arith, l)
 
 -- ---- ModRM's memory operand
 
@@ -112,15 +114,15 @@ module _ (r : RowRecord) (p : Prefixes) (bytes : List ℕ) (reading : Reading) (
   abbrev plan : Plan
   plan = r.plan m
 
-  tied : (length operand_pairs ≡ length (list_of (plan).encodings)) × pairs_tied operand_pairs
-  tied = operands_tied (list_of (plan).encodings) p m row_spelled.tail_spelled.pieces.memory row_spelled.tail_spelled.pieces.immediates
+  tied : (length operand_pairs ≡ length (plan_encodings plan)) × pairs_tied operand_pairs
+  tied = operands_tied (plan_encodings plan) p m row_spelled.tail_spelled.pieces.memory row_spelled.tail_spelled.pieces.immediates
       operand_pairs row_spelled.tail_spelled.pieces.immediates_spelled
 
   counts : reading.count ≡ length operand_pairs
   counts = ap (λ x. x.count) row_spelled.tail_spelled.yields
 
   few_pairs : length operand_pairs ≤ 4
-  few_pairs = let t = tied.0 in let f = at_most_four (plan).encodings in omega arith
+  few_pairs = let t = tied.0 in let f = at_most_four plan in omega arith
 
   slot_here : (k : ℕ) → slot_read reading k ≡ (pair_at operand_pairs k).0
   slot_here k = ap (λ x. slice_index_or x.slots k slots.Nothing) row_spelled.tail_spelled.yields ∙ (pair_in operand_pairs k few_pairs).0
@@ -151,8 +153,8 @@ module _ (r : RowRecord) (p : Prefixes) (bytes : List ℕ) (reading : Reading) (
     pub memory_is_shape : (k : ℕ) → names_modrm (encodings_of r p bytes reading row_spelled) k ≡ true → HasShapeAt reading k raw
     memory_is_shape k named =
         let shapes : HasShape operand_pairs k raw = memory_at
-        (list_of (plan).encodings) p m raw row_spelled.tail_spelled.pieces.immediates operand_pairs k
-        (subst (λ o. SpellsOperands (list_of (plan).encodings) p m o row_spelled.tail_spelled.pieces.immediates operand_pairs) memory
+        (plan_encodings plan) p m raw row_spelled.tail_spelled.pieces.immediates operand_pairs k
+        (subst (λ o. SpellsOperands (plan_encodings plan) p m o row_spelled.tail_spelled.pieces.immediates operand_pairs) memory
         row_spelled.tail_spelled.pieces.immediates_spelled) named in
         let within : k < length operand_pairs = shapes.0 in
         record {

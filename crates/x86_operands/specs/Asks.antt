@@ -2,10 +2,10 @@
 use Rattle.std.specs.Prelude.{ℕ, Bool, true, false, Option, List, [], ◌∷◌, map}
 use Rattle.std.specs.Int.{byte_len}
 use Rattle.std.specs.Option.{option_map_or}
-use Rattle.x86_operands.specs.Vocabulary.{Verdict, NamedBySuffix, OperandEncodings, ModrmUse, Absent, EitherForm, Registers, Plan, Ask}
+use Rattle.x86_operands.specs.Vocabulary.{Verdict, NamedBySuffix, ModrmUse, Absent, EitherForm, Registers, Ask}
 use Rattle.x86_operands.specs.Vocabulary.{RecordAt, OperandEncoding, Position, Nowhere, is_memory, absent_modrm, as_register}
 use Rattle.x86_fields.specs.Pieces.{total, option_bytes}
-use Rattle.x86_operands.specs.Plans.{RowRecord, list_of}
+use Rattle.x86_operands.specs.Plans.{Plan, RowRecord, plan_encodings}
 use Rattle.x86_operands.specs.PlanSteps.{immediate_read}
 
 abbrev pub uses_modrm : ModrmUse → Bool
@@ -26,8 +26,8 @@ part_width Nowhere s = 0
 part_width at s = immediate_width s
 
 -- how many bytes the immediates have together; those of an absolute address count
-abbrev pub immediates_width : OperandEncodings → ℕ
-immediates_width encodings = total (map immediate_width (list_of encodings))
+abbrev pub immediates_width : Plan → ℕ
+immediates_width plan = total (map immediate_width (plan_encodings plan))
 
 abbrev pub first_or : ℕ → List ℕ → ℕ
 first_or n [] = n
@@ -48,7 +48,7 @@ abbrev pub plan_ask : ModrmUse → ℕ → Plan → Ask
 plan_ask usage m plan = record {
   modrm = uses_modrm usage;
   memory = is_memory m;
-  immediate = immediates_width plan.encodings;
+  immediate = immediates_width plan;
   suffix = uses_suffix plan.verdict;
 }
 

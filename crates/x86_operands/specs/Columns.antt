@@ -3,14 +3,16 @@
 -- letters of operands mean is in PlanSteps. Source: Intel SDM volume 2, appendix A.4 (the columns of its tables of opcode
 -- extensions).
 use Rattle.std.specs.Prelude.{ℕ, nat_le, ◌==◌, Bool, true, not, ◌&&◌, ◌||◌, if◌then◌else◌, List, [], ◌∷◌, slice_index_or, unwrap_or}
-use Rattle.x86_operands.specs.Vocabulary.{Prefixes, TableRow, BadOpcode, AtModRM, Plan, reg_field, rm_field, is_memory, operand_size}
+use Rattle.x86_operands.specs.Vocabulary.{Prefixes, TableRow, BadOpcode, AtModRM, reg_field, rm_field, is_memory, operand_size}
 use Rattle.x86_operands.specs.Vocabulary.{address_size, has_r, has_w, has_b, repnz, rep}
-use Rattle.x86_operands.specs.RowVocabulary.{ByReg, ByRm, Bytes, FormRow, Memory, Name, Names, Of, Own, Place, Reg, Register, Rm, RowSize, When}
+use Rattle.x86_operands.specs.RowVocabulary.{ByReg, ByRm, Memory, Name, Names, Own, Place, Reg, Register, Rm, TemplateRow, When}
 use Rattle.x86_operands.specs.Words.{otherwise}
 use Rattle.x86_opcodes.specs.Names.{Invalid}
 use Rattle.x86_opcodes.specs.Numbers.{opcode_numbered}
 use Rattle.x86_forms.specs.Words.{carried}
-use Rattle.x86_operands.specs.Encodings.{all_settled, size_bytes}
+use Rattle.x86_operands.specs.Encodings.{size_bytes}
+use Rattle.x86_operands.specs.Plans.{Plan, reads}
+use Rattle.x86_operands.specs.Templates.{size_at}
 use Rattle.x86_operands.specs.declared.rows.Reg.TheVariants as regs
 use Rattle.x86_operands.specs.declared.rows.Rm.TheVariants as rms
 use Rattle.x86_operands.specs.declared.rows.When.TheVariants as when
@@ -60,7 +62,7 @@ is_named (ByReg names) m = not (name_at names (reg_field m) == none)
 is_named (ByRm names) m = not (name_at names (rm_field m) == none)
 is_named names m = true
 
-abbrev pub is_there : FormRow → TableRow → Bool → Prefixes → ℕ → Bool
+abbrev pub is_there : TemplateRow → TableRow → Bool → Prefixes → ℕ → Bool
 is_there row own strict p m =
     is_placed row.at.place m
     && (is_reg row.at.reg m
@@ -69,7 +71,7 @@ is_there row own strict p m =
     && is_named row.names m)))
 
 -- the first row that is there; where none is, the opcode is refused
-abbrev pub choose : List FormRow → TableRow → Bool → Prefixes → ℕ → FormRow
+abbrev pub choose : List TemplateRow → TableRow → Bool → Prefixes → ℕ → TemplateRow
 choose [] own strict p m = otherwise BadOpcode AtModRM
 choose (row ∷ rest) own strict p m = if is_there row own strict p m then row else choose rest own strict p m
 
@@ -87,17 +89,10 @@ opcode_of (ByRm names) own m = named (name_at names (rm_field m))
 
 -- ---- the plan of a row
 
--- the bytes of a size
-abbrev pub row_bytes : RowSize → ℕ → Prefixes → ℕ
-row_bytes (Bytes n) opcode p = n
-row_bytes (Of size) opcode p = size_bytes size opcode p
-
 -- what a row has at a ModRM byte
-abbrev pub plan_of_row : FormRow → TableRow → Prefixes → ℕ → Plan
-plan_of_row row own p m = record {
-  opcode = opcode_of row.names own m;
-  encodings = all_settled row.operands (carried own.form) p;
-  size = if is_memory m then row_bytes row.in_memory own.opcode p else row_bytes row.in_register own.opcode p;
-  change = row.change;
-  verdict = row.verdict;
-}
+abbrev pub plan_of_row : TemplateRow → TableRow → Prefixes → ℕ → Plan
+plan_of_row row own p m =
+    record (reads (opcode_of row.names own m) row.template (carried own.form) p (size_bytes (size_at row.template m) own.opcode p)) {
+      change = row.change;
+      verdict = row.verdict;
+    }

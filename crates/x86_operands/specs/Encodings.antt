@@ -1,5 +1,5 @@
 -- What the sizes and the letters of rows mean under prefixes. In a form that has sizes for named opcodes alone, any other opcode has size 0.
-use Rattle.std.specs.Prelude.{ℕ, ◌+◌, if◌then◌else◌, not, ◌&&◌, List, [], ◌∷◌, map, unwrap_or}
+use Rattle.std.specs.Prelude.{ℕ, ◌+◌, if◌then◌else◌, not, ◌&&◌, List, [], ◌∷◌, unwrap_or}
 use Rattle.std.specs.Map.{lookup}
 use Rattle.x86_regs.specs.declared.RegisterClass.TheVariants as class
 use Rattle.x86_opcodes.specs.Kinds.{is_among}
@@ -7,11 +7,10 @@ use Rattle.x86_opcodes.specs.Names.{CALL, CMPSD, CMPSS, ROUNDSS, ROUNDSD, MOVDDU
 use Rattle.x86_opcodes.specs.Names.{EXTRACTPS, PINSRB, INSERTPS, PMOVSXBQ, PMOVZXBQ, PMOVSXBD, PMOVZXBD, PMOVSXWQ, PMOVZXWQ, UCOMISS}
 use Rattle.x86_opcodes.specs.Names.{COMISS, CVTSS2SD, PUNPCKLBW, PUNPCKLWD, PUNPCKLDQ, RETURN, RETF, PUSHF, POPF, LEAVE, XLAT}
 use Rattle.x86_fields.specs.MemorySizes.{undecided_size}
-use Rattle.x86_operands.specs.Vocabulary.{width_of, RegisterClass, Prefixes, OperandEncoding, OperandEncodings, Size, v_class, vq_class}
+use Rattle.x86_operands.specs.Vocabulary.{width_of, RegisterClass, Prefixes, OperandEncoding, Size, v_class, vq_class}
 use Rattle.x86_operands.specs.Vocabulary.{dq_class, has_w, operand_size, address_size}
 use Rattle.x86_operands.specs.declared.plans.OperandEncoding.TheVariants as encoding
 use Rattle.x86_operands.specs.declared.sizing.Size.TheVariants as size
-use Rattle.x86_operands.specs.Plans.{list_of, up_to_four}
 
 -- an immediate by the class v: of a word, of a doubleword or of a quadword
 abbrev pub immediate_by : OperandEncoding → RegisterClass → OperandEncoding
@@ -65,6 +64,3 @@ settled encoding.Ip n p = if operand_size p && not (has_w p) then encoding.I16 e
 settled encoding.Jv n p = if operand_size p && not (has_w p) then encoding.I32From16 else encoding.I32
 settled encoding.Offset n p = if address_size p then encoding.Address32 else encoding.Address64
 settled s n p = s
-
-abbrev pub all_settled : OperandEncodings → ℕ → Prefixes → OperandEncodings
-all_settled operands n p = up_to_four (map (λ s. settled s n p) (list_of operands))

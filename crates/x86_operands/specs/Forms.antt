@@ -1,11 +1,11 @@
 -- The records of the plain forms: what each has after its opcode byte, and what it yields.
 use Rattle.std.specs.Prelude.{ℕ, Bool, true, false, List, [], ◌∷◌, None, ◌≡◌, ⊤}
-use Rattle.x86_operands.specs.Vocabulary.{Form, Prefixes, TableRow, ModrmUse, Absent, EitherForm, Plan, After, Template}
-use Rattle.x86_operands.specs.RowVocabulary.{Place, Bare, FormRow}
-use Rattle.x86_operands.specs.Plans.{RowRecord}
+use Rattle.x86_operands.specs.Vocabulary.{Form, Prefixes, TableRow, ModrmUse, Absent, EitherForm, After, Template}
+use Rattle.x86_operands.specs.RowVocabulary.{Place, Bare, TemplateRow}
+use Rattle.x86_operands.specs.Plans.{Plan, RowRecord, template_plan}
 use Rattle.x86_operands.specs.Columns.{choose, plan_of_row}
 use Rattle.x86_operands.specs.Rows.{form_rows}
-use Rattle.x86_operands.specs.Templates.{is_read_at, template_plan}
+use Rattle.x86_operands.specs.Templates.{is_read_at}
 use Rattle.x86_forms.specs.Groups.{is_group}
 use Rattle.x86_forms.specs.declared.Form.TheVariants as form
 use Rattle.x86_forms.specs.declared.words.WordRow.{WordRow}
@@ -15,7 +15,7 @@ place_use Bare = Absent
 place_use place = EitherForm
 
 -- all rows of a form have a ModRM byte, or none has
-abbrev pub rows_use : List FormRow → ModrmUse
+abbrev pub rows_use : List TemplateRow → ModrmUse
 rows_use [] = Absent
 rows_use (row ∷ rest) = place_use row.at.place
 

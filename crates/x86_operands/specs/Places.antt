@@ -2,10 +2,10 @@
 use Rattle.std.specs.Prelude.{ℕ, ◌%◌, false}
 use Rattle.x86_arch.specs.Reader.{State}
 use Rattle.x86_fields.specs.Steps.{Step, then_from, pure, ◌>>=◌}
-use Rattle.x86_operands.specs.Vocabulary.{Prefixes, Plan, Reading}
+use Rattle.x86_operands.specs.Vocabulary.{Prefixes, Reading}
 use Rattle.x86_operands.specs.declared.places.Places.{Places}
 use Rattle.x86_operands.specs.Asks.{uses_suffix}
-use Rattle.x86_operands.specs.Plans.{RowRecord}
+use Rattle.x86_operands.specs.Plans.{Plan, RowRecord}
 use Rattle.x86_operands.specs.PlanSteps.{read_memory, read_plan, read_modrm, refuse_fault}
 
 abbrev pub no_places : Places

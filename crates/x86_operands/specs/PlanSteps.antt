@@ -6,7 +6,7 @@ use Rattle.x86_operands.specs.Vocabulary.{RegSpec, RegisterClass, DecodeError, P
 use Rattle.x86_operands.specs.Vocabulary.{OperandEncoding, G, Gmm, E, Emm, I8, I16, I32, I64, I32From16, I64Whole, U8, U16, X8, X16}
 use Rattle.x86_operands.specs.Vocabulary.{ConstantI8, ConstantU8, Address32, Address64, Moment, AtModRM, AfterAddress, AfterSuffix, Fault}
 use Rattle.x86_operands.specs.Vocabulary.{BadOpcode, BadOperand, Incomplete, Verdict, NamedBySuffix, Refuses, PrefixChange, Keeps}
-use Rattle.x86_operands.specs.Vocabulary.{ClearsOperandSize, SetsEs, ModrmUse, Absent, EitherForm, Registers, Plan, Reading, Operands}
+use Rattle.x86_operands.specs.Vocabulary.{ClearsOperandSize, SetsEs, ModrmUse, Absent, EitherForm, Registers, Reading, Operands}
 use Rattle.x86_operands.specs.Vocabulary.{reg_spec, reg_field, rm_field, is_memory, absent_modrm, as_register, register_of, class_of}
 use Rattle.x86_operands.specs.Vocabulary.{address_size}
 use Rattle.x86_regs.specs.declared.RegisterClass.TheVariants as class
@@ -20,7 +20,7 @@ use Rattle.x86_operands.specs.declared.operands.Operand.TheVariants as operands
 use Rattle.x86_operands.specs.declared.plans.RegisterSlot.TheVariants as reg_slot
 use Rattle.x86_operands.specs.declared.plans.PointerSlot.TheVariants as pointer
 use Rattle.x86_operands.specs.Operands.{shape}
-use Rattle.x86_operands.specs.Plans.{RowRecord, list_of, reg_number, rm_number}
+use Rattle.x86_operands.specs.Plans.{Plan, RowRecord, plan_encodings, reg_number, rm_number}
 use Rattle.std.specs.Map.{lookup}
 use Rattle.x86_opcodes.specs.Names.{PI2FW, PI2FD, PF2IW, PF2ID, PFNACC, PFPNACC, PFCMPGE, PFMIN, PFRCP, PFRSQRT, PFSUB, PFADD, PFCMPGT}
 use Rattle.x86_opcodes.specs.Names.{PFMAX, PFRCPIT1, PFRSQIT1, PFSUBR, PFACC, PFCMPEQ, PFMUL, PFRCPIT2, PMULHRW, PSWAPD, PAVGUSB}
@@ -188,7 +188,7 @@ read_plan plan p m =
     refuse_at plan.verdict AtModRM >>= λ _.
     read_memory p m >>= λ memory.
     refuse_at plan.verdict AfterAddress >>= λ _.
-    filled_step (list_of plan.encodings) p m memory >>= λ operand_pairs.
+    filled_step (plan_encodings plan) p m memory >>= λ operand_pairs.
     read_opcode plan.verdict plan.opcode >>= λ opcode.
     refuse_at plan.verdict AfterSuffix >>= λ _.
     pure (reading_from plan p opcode operand_pairs)

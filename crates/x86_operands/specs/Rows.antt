@@ -9,7 +9,7 @@ use Rattle.x86_opcodes.specs.Names.{CBW, CDQ, CDQE, CQO, CWD, CWDE, ENQCMD, ENQC
 use Rattle.x86_opcodes.specs.Names.{PEXTRD, PEXTRQ, PINSRD, PINSRQ}
 use Rattle.x86_fields.specs.declared.sizes.Width.TheVariants.{B, W, D, Q, X, V, Vq, Vd, Dq}
 use Rattle.x86_operands.specs.Vocabulary.{Form, BadOperand, Incomplete, AtModRM, AfterAddress, AfterSuffix, SetsEs}
-use Rattle.x86_operands.specs.RowVocabulary.{FormRow, Own, Name, Bytes, Of}
+use Rattle.x86_operands.specs.RowVocabulary.{TemplateRow, Own, Name}
 use Rattle.x86_forms.specs.declared.Form.TheVariants as form
 use Rattle.x86_operands.specs.declared.plans.RegisterSlot.TheVariants.{Reg, Rm, Third}
 use Rattle.x86_operands.specs.declared.plans.PointerSlot.TheVariants.{Deref, DerefEsi, DerefEdi, DerefRsi, DerefRdi}
@@ -17,14 +17,14 @@ use Rattle.x86_regs.specs.declared.RegisterClass.TheVariants as class
 use Rattle.x86_operands.specs.declared.sizing.Size.TheVariants.{FarPointer, Bare, Call, Return, Duplicate, Stream, Scalar, Extract, Insert, Unpack, Extend}
 use Rattle.x86_operands.specs.declared.plans.OperandEncoding.TheVariants.{E, G, Gmm, Emm, Sr, A, I8, U8, U16, I32, Iv, Ivq, Ip, X16, Offset}
 use Rattle.x86_operands.specs.declared.plans.OperandEncoding.TheVariants.{Source, Destination, At, Implied}
-use Rattle.x86_operands.specs.declared.plans.OperandEncodings.TheVariants.{Zero, One, Two, Three}
 use Rattle.x86_operands.specs.declared.rows.When.TheVariants.{Always, With66, With67, RexW, RexR, Register0, Opcode}
-use Rattle.x86_operands.specs.Words.{bare, mem, reg, both, both_at, both_from, M, U, Umm, Z, unsigned_one, three, of_dq, size, size_of}
+use Rattle.x86_operands.specs.Words.{bare, mem, reg, both, both_at, both_from, Zero, One, Two, Three, M, U, Umm, Z, unsigned_one, three}
+use Rattle.x86_operands.specs.Words.{Bytes, of_dq, size, size_of}
 use Rattle.x86_operands.specs.Words.{size_v, size_dq, or_v, read, changing, refusing, refusal, otherwise, named_by_v, without_modrm}
 use Rattle.x86_operands.specs.Words.{with_modrm, with_memory, with_register}
 
 -- of the plain forms none is left to the last line, for groups
-unfoldable pub form_rows : Form → List FormRow
+unfoldable pub form_rows : Form → List TemplateRow
 -- no ModRM: the register of the opcode byte, immediates, and nothing
 form_rows (form.Zv_R n) = without_modrm (One (Z Reg Vq)) (size 8)
 form_rows (form.Zb_Ib_R n) = without_modrm (Two (Z Reg B) U8) (size 0)
@@ -110,15 +110,15 @@ form_rows form.Mdq_Gdq = with_memory (Two M (G Dq)) size_dq
 form_rows form.G_E_q = with_modrm (Two (G Q) (E Q)) (or_v (Bytes 8))
 form_rows form.E_G_q = with_modrm (Two (E Q) (G Q)) (or_v (Bytes 8))
 -- xmm registers
-form_rows form.G_E_xmm = with_modrm (Two (G X) (E X)) (or_v (Of Duplicate))
+form_rows form.G_E_xmm = with_modrm (Two (G X) (E X)) (or_v Duplicate)
 form_rows form.E_G_xmm = with_modrm (Two (E X) (G X)) (or_v (Bytes 16))
 form_rows form.G_Ed_xmm = with_modrm (Two (G X) (E X)) (or_v (Bytes 4))
 form_rows form.Ed_G_xmm = with_modrm (Two (E X) (G X)) (or_v (Bytes 4))
 form_rows form.G_M_xmm = with_memory (Two (G X) M) (size 16)
 form_rows form.M_G_xmm = with_memory (Two M (G X)) (size_of Stream)
-form_rows form.G_E_xmm_Ib = with_modrm (Three (G X) (E X) I8) (or_v (Of Scalar))
+form_rows form.G_E_xmm_Ib = with_modrm (Three (G X) (E X) I8) (or_v Scalar)
 form_rows form.G_E_xmm_Ub = with_modrm (Three (G X) (E X) U8) (or_v (Bytes 16))
-form_rows form.PMOVX_G_E_xmm = with_modrm (Two (G X) (E X)) (or_v (Of Extend))
+form_rows form.PMOVX_G_E_xmm = with_modrm (Two (G X) (E X)) (or_v Extend)
 form_rows form.G_Mq_xmm = with_memory (Two (G X) M) (size 8)
 form_rows form.PMOVX_E_G_xmm = with_modrm (Two (E X) (G X)) (or_v (Bytes 8))
 form_rows form.MOVQ_f30f = with_modrm (Two (G X) (E X)) (or_v (Bytes 8))
@@ -129,7 +129,7 @@ form_rows form.G_U_xmm = with_register (Two (G X) (U X)) size_v
 form_rows form.MASKMOVDQU = with_register (Two (G X) (U X)) (size 16)
 form_rows form.G_U_xmm_Ub = with_register (Three (G D) (U X) U8) size_v
 form_rows form.Ev_G_xmm_Ib = with_modrm (Three (E V) (G X) U8) (size_of Extract)
-form_rows form.G_Ev_xmm_Ib = with_modrm (Three (G X) (E X) U8) (or_v (Of Insert))
+form_rows form.G_Ev_xmm_Ib = with_modrm (Three (G X) (E X) U8) (or_v Insert)
 form_rows form.G_xmm_Ew_Ib = with_modrm (Three (G X) (E D) U8) (or_v (Bytes 2))
 form_rows form.G_xmm_Edq = with_modrm (Two (G X) (E Dq)) size_v
 -- mm registers
@@ -138,7 +138,7 @@ form_rows form.G_mm_E_xmm = with_modrm (Two Gmm (E X)) (or_v (Bytes 16))
 form_rows form.G_xmm_U_mm = with_register (Two (G X) Umm) size_v
 form_rows form.G_mm_U_xmm = with_register (Two Gmm (U X)) size_v
 form_rows form.G_U_mm = with_register (Two (G D) Umm) size_v
-form_rows form.G_E_mm = with_modrm (Two Gmm Emm) (or_v (Of Unpack))
+form_rows form.G_E_mm = with_modrm (Two Gmm Emm) (or_v Unpack)
 form_rows form.G_mm_E = with_modrm (Two Gmm Emm) (or_v (Bytes 8))
 form_rows form.E_G_mm = with_modrm (Two Emm Gmm) (or_v (Bytes 8))
 form_rows form.G_E_mm_Ib = with_modrm (Three Gmm Emm I8) (Bytes 8, Bytes 0)

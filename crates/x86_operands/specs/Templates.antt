@@ -1,16 +1,11 @@
--- What the templates of the table mean: a row of the table is a row of the definitions, and its operands are read as that
--- row's are.
-use Rattle.std.specs.Prelude.{ℕ, Bool, true, false, ◌==◌, if◌then◌else◌, not, ◌&&◌, ◌||◌}
-use Rattle.x86_fields.specs.MemorySizes.{undecided_size}
-use Rattle.x86_operands.specs.Vocabulary.{Prefixes, Width, OperandEncoding, OperandEncodings, Zero, One, Two, Three, Four, Plan, Position}
-use Rattle.x86_operands.specs.Vocabulary.{First, Second, Third, Fourth, Nowhere, Order, Size, Template, is_memory}
-use Rattle.x86_operands.specs.RowVocabulary.{FormRow, Place, Register, RowSize, Bytes, Of, TemplateRow}
+-- What the operand template of a row means, and which templates are sound.
+use Rattle.std.specs.Prelude.{ℕ, Bool, true, false, ◌==◌, if◌then◌else◌, not, ◌&&◌, ◌||◌, List, [], ◌∷◌, take}
+use Rattle.x86_operands.specs.Vocabulary.{Width, OperandEncoding, Position, First, Second, Third, Fourth, Nowhere, Order, Size, Template}
+use Rattle.x86_operands.specs.Vocabulary.{is_memory}
+use Rattle.x86_operands.specs.RowVocabulary.{Place, Register, TemplateRow}
 use Rattle.x86_fields.specs.declared.sizes.Width.TheVariants as width
 use Rattle.x86_operands.specs.declared.plans.OperandEncoding.TheVariants as encoding
 use Rattle.x86_operands.specs.declared.plans.RegisterSlot.TheVariants as slot
-use Rattle.x86_operands.specs.declared.sizing.Size.TheVariants as size
-use Rattle.x86_operands.specs.Plans.{reads}
-use Rattle.x86_operands.specs.Encodings.{all_settled, size_bytes}
 
 -- ---- the operands of a template
 
@@ -50,53 +45,17 @@ encoding_at o k reg rm last extra =
     else (if index_of_position o.rm == k then rm
     else (if index_of_position o.last == k then last else extra))
 
-abbrev pub encodings_in : Order → OperandEncoding → OperandEncoding → OperandEncoding → OperandEncoding → OperandEncodings
-encodings_in o reg rm last extra =
-    if o.count == 0 then Zero
-    else (if o.count == 1 then One (encoding_at o 0 reg rm last extra)
-    else (if o.count == 2 then Two (encoding_at o 0 reg rm last extra) (encoding_at o 1 reg rm last extra)
-    else (if o.count == 3 then Three (encoding_at o 0 reg rm last extra) (encoding_at o 1 reg rm last extra) (encoding_at o 2 reg rm last extra)
-    else Four (encoding_at o 0 reg rm last extra) (encoding_at o 1 reg rm last extra) (encoding_at o 2 reg rm last extra) (encoding_at o 3 reg rm last extra))))
+-- the operands in their order: as many as there are, of four
+abbrev pub letters_in : Order → OperandEncoding → OperandEncoding → OperandEncoding → OperandEncoding → List OperandEncoding
+letters_in o reg rm last extra =
+    encoding_at o 0 reg rm last extra ∷ encoding_at o 1 reg rm last extra ∷ encoding_at o 2 reg rm last extra ∷ encoding_at o 3 reg rm last extra ∷ []
 
-abbrev pub template_operands : Template → OperandEncodings
-template_operands t = encodings_in t.order (reg_part t 0) (rm_encoding t.rm) t.last t.extra
-
--- ---- the row that a row of the table is
-
-abbrev pub row_size : Size → RowSize
-row_size size.Zero = Bytes 0
-row_size size.One = Bytes 1
-row_size size.Two = Bytes 2
-row_size size.Four = Bytes 4
-row_size size.Eight = Bytes 8
-row_size size.Ten = Bytes 10
-row_size size.Sixteen = Bytes 16
-row_size size.FortyEight = Bytes 48
-row_size size.Undecided = Bytes undecided_size
-row_size size.SixtyFour = Bytes 64
-row_size s = Of s
-
-abbrev pub form_row : TemplateRow → FormRow
-form_row row = record {
-  at = row.at;
-  when = row.when;
-  names = row.names;
-  operands = template_operands row.template;
-  in_memory = row_size row.template.in_memory;
-  in_register = row_size row.template.in_register;
-  change = row.change;
-  verdict = row.verdict;
-}
-
--- ---- the plan of a template that is read at once
+abbrev pub encodings_in : Order → OperandEncoding → OperandEncoding → OperandEncoding → OperandEncoding → List OperandEncoding
+encodings_in o reg rm last extra = take o.count (letters_in o reg rm last extra)
 
 -- the memory size at a ModRM byte
 abbrev pub size_at : Template → ℕ → Size
 size_at t m = if is_memory m then t.in_memory else t.in_register
-
--- the plan of a row with this template, whose opcode byte carries n
-abbrev pub template_plan : Template → ℕ → ℕ → Prefixes → ℕ → Plan
-template_plan t n o p m = reads o (all_settled (template_operands t) n p) (size_bytes (size_at t m) o p)
 
 -- ---- templates that are sound
 

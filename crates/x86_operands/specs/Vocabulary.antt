@@ -1,4 +1,4 @@
--- The types that definitions and proofs of this crate import, with the variants of plans, and the words on prefixes, ModRM
+-- The types that definitions and proofs of this crate import, with the variants of plans and positions, and the words on prefixes, ModRM
 -- and registers. A crate above sees only what is of crates below this one.
 pub use Rattle.x86_regs.specs.declared.RegSpec.{RegSpec}
 pub use Rattle.x86_regs.specs.declared.RegisterClass.{RegisterClass}
@@ -20,13 +20,11 @@ pub use Rattle.x86_operands.specs.declared.operands.Slot.{Slot}
 pub use Rattle.x86_operands.specs.declared.plans.RegisterSlot.{RegisterSlot}
 pub use Rattle.x86_operands.specs.declared.plans.PointerSlot.{PointerSlot}
 pub use Rattle.x86_operands.specs.declared.plans.OperandEncoding.{OperandEncoding}
-pub use Rattle.x86_operands.specs.declared.plans.OperandEncodings.{OperandEncodings}
 pub use Rattle.x86_operands.specs.declared.plans.Fault.{Fault}
 pub use Rattle.x86_operands.specs.declared.plans.Moment.{Moment}
 pub use Rattle.x86_operands.specs.declared.plans.Verdict.{Verdict}
 pub use Rattle.x86_operands.specs.declared.plans.PrefixChange.{PrefixChange}
 pub use Rattle.x86_operands.specs.declared.plans.ModrmUse.{ModrmUse}
-pub use Rattle.x86_operands.specs.declared.plans.Plan.{Plan}
 pub use Rattle.x86_operands.specs.declared.sizing.Size.{Size}
 pub use Rattle.x86_operands.specs.declared.templates.Template.{Template}
 pub use Rattle.x86_operands.specs.declared.heads.After.{After}
@@ -39,7 +37,6 @@ pub use Rattle.x86_operands.specs.declared.asks.Ask.{Ask}
 pub use Rattle.x86_operands.specs.declared.asks.RecordAt.{RecordAt}
 pub use Rattle.x86_operands.specs.declared.plans.OperandEncoding.TheVariants.{G, Gmm, E, Emm, I8, I16, I32, I64, I32From16, I64Whole, U8}
 pub use Rattle.x86_operands.specs.declared.plans.OperandEncoding.TheVariants.{U16, X8, X16, ConstantI8, ConstantU8, Address32, Address64}
-pub use Rattle.x86_operands.specs.declared.plans.OperandEncodings.TheVariants.{Zero, One, Two, Three, Four}
 pub use Rattle.x86_operands.specs.declared.plans.Fault.TheVariants.{BadOpcode, BadOperand, Incomplete}
 pub use Rattle.x86_operands.specs.declared.plans.Moment.TheVariants.{AtModRM, AfterAddress, AfterSuffix}
 pub use Rattle.x86_operands.specs.declared.plans.Verdict.TheVariants.{Accepts, NamedBySuffix, Refuses}

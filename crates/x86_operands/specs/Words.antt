@@ -1,14 +1,16 @@
 -- The words that rows are written in.
-use Rattle.std.specs.Prelude.{ℕ, List, [], ◌∷◌, pos}
+use Rattle.std.specs.Prelude.{ℕ, Bool, ◌==◌, if◌then◌else◌, false, true, List, [], ◌∷◌, pos, unwrap_or}
+use Rattle.std.specs.Map.{lookup}
 use Rattle.x86_regs.specs.declared.RegisterClass.TheVariants as class
 use Rattle.x86_fields.specs.declared.sizes.Width.TheVariants as width
-use Rattle.x86_fields.specs.MemorySizes.{undecided_size}
+use Rattle.x86_operands.specs.declared.sizing.Size.TheVariants as sizes
 use Rattle.x86_operands.specs.declared.sizing.Size.TheVariants.{V, Vq, Dq}
 use Rattle.x86_opcodes.specs.Names.{Invalid}
-use Rattle.x86_operands.specs.Vocabulary.{OperandEncoding, OperandEncodings, Zero, RegisterSlot, Width, Fault, Moment, BadOperand, AtModRM}
-use Rattle.x86_operands.specs.Vocabulary.{AfterAddress, PrefixChange, Keeps, Size, Verdict, Accepts, NamedBySuffix, Refuses}
-use Rattle.x86_operands.specs.RowVocabulary.{Bare, Bytes, ByReg, ByRm, Either, FormRow, Memory, Name, Names, Of, Own, Place, Reg, Register}
-use Rattle.x86_operands.specs.RowVocabulary.{Rm, RowSize, When, Where}
+use Rattle.x86_operands.specs.Vocabulary.{OperandEncoding, RegisterSlot, Width, Fault, Moment, BadOperand, AtModRM, AfterAddress, PrefixChange}
+use Rattle.x86_operands.specs.Vocabulary.{Keeps, Size, Template, Verdict, Accepts, NamedBySuffix, Refuses}
+use Rattle.x86_operands.specs.Vocabulary.{Position, First, Second, Third, Fourth, Nowhere}
+use Rattle.x86_operands.specs.RowVocabulary.{Bare, ByReg, ByRm, Either, Memory, Name, Names, Own, Place, Reg, Register, Rm, TemplateRow, When, Where}
+use Rattle.x86_operands.specs.Templates.{somewhere}
 use Rattle.x86_operands.specs.declared.plans.RegisterSlot.TheVariants as slot
 use Rattle.x86_operands.specs.declared.plans.OperandEncoding.TheVariants as encoding
 use Rattle.x86_operands.specs.declared.rows.When.TheVariants.{Always, RexW, With66}
@@ -80,7 +82,7 @@ U w = encoding.E w
 abbrev pub Umm : OperandEncoding
 Umm = encoding.Emm
 
--- the register of the opcode byte, whose number the plan has
+-- the register of the opcode byte, whose number a plan has
 abbrev pub Z : RegisterSlot → Width → OperandEncoding
 Z at w = encoding.Z at w 0
 
@@ -120,87 +122,158 @@ edx_in_rm = encoding.Implied slot.Rm 2 class.D
 abbrev pub ecx_third : OperandEncoding
 ecx_third = encoding.Implied slot.Third 1 class.D
 
+-- ---- the operands of a row: each sets a part of the template
+
+-- no operand
+abbrev pub Zero : Template
+Zero = record {
+  order = record { count = 0; reg = Nowhere; rm = Nowhere; last = Nowhere; extra = Nowhere };
+  reg = width.B;
+  of_opcode = false;
+  rm = width.B;
+  last = encoding.ConstantU8 0;
+  extra = encoding.ConstantU8 0;
+  in_memory = sizes.Zero;
+  in_register = sizes.Zero;
+}
+
+abbrev pub with_reg : Position → Width → Bool → Template → Template
+with_reg at w of_opcode t = record t { order = record t.order { reg = at }; reg = w; of_opcode = of_opcode }
+
+abbrev pub with_rm : Position → Width → Template → Template
+with_rm at w t = record t { order = record t.order { rm = at }; rm = w }
+
+-- one that is of neither reg nor rm, and another after it
+abbrev pub with_last : Position → OperandEncoding → Template → Template
+with_last at s t =
+    if somewhere t.order.last then record t { order = record t.order { extra = at }; extra = s }
+    else record t { order = record t.order { last = at }; last = s }
+
+-- G is the register of reg, and E the operand of rm. A row without E may have the register of the opcode byte, or register 0,
+-- in the place of G.
+abbrev pub with_operand : Position → OperandEncoding → Template → Template
+with_operand at (encoding.G w) t = with_reg at w false t
+with_operand at encoding.Gmm t = with_reg at width.Mm false t
+with_operand at (encoding.Z slot.Reg w n) t = with_reg at w true t
+with_operand at (encoding.A w) t = with_reg at w false t
+with_operand at (encoding.E w) t = with_rm at w t
+with_operand at encoding.Emm t = with_rm at width.Mm t
+with_operand at encoding.StRm t = with_rm at width.St t
+with_operand at s t = with_last at s t
+
+abbrev pub counted : ℕ → Template → Template
+counted n t = record t { order = record t.order { count = n } }
+
+-- one operand to four, in their order
+abbrev pub One : OperandEncoding → Template
+One a = counted 1 (with_operand First a Zero)
+
+abbrev pub Two : OperandEncoding → OperandEncoding → Template
+Two a b = counted 2 (with_operand Second b (One a))
+
+abbrev pub Three : OperandEncoding → OperandEncoding → OperandEncoding → Template
+Three a b c = counted 3 (with_operand Third c (Two a b))
+
+abbrev pub Four : OperandEncoding → OperandEncoding → OperandEncoding → OperandEncoding → Template
+Four a b c d = counted 4 (with_operand Fourth d (Three a b c))
+
 -- ---- memory sizes, in the memory form and in the register form
 
 -- that of v, of vq and of dq, of one form
-abbrev pub of_v : RowSize
-of_v = Of V
+abbrev pub of_v : Size
+of_v = V
 
-abbrev pub of_vq : RowSize
-of_vq = Of Vq
+abbrev pub of_vq : Size
+of_vq = Vq
 
-abbrev pub of_dq : RowSize
-of_dq = Of Dq
+abbrev pub of_dq : Size
+of_dq = Dq
 
--- The same in both forms: so many bytes, one that the processor decides, and one that W and 66 or the operation decide.
-abbrev pub size : ℕ → RowSize × RowSize
-size n = (Bytes n, Bytes n)
+-- so many bytes, of one form
+abbrev pub every_size : List (ℕ × Size)
+every_size =
+    (0, sizes.Zero) ∷ (1, sizes.One) ∷ (2, sizes.Two) ∷ (4, sizes.Four) ∷ (8, sizes.Eight) ∷ (10, sizes.Ten) ∷
+    (16, sizes.Sixteen) ∷ (48, sizes.FortyEight) ∷ (64, sizes.SixtyFour) ∷ []
 
-abbrev pub undecided : RowSize × RowSize
-undecided = size undecided_size
+abbrev pub Bytes : ℕ → Size
+Bytes n = unwrap_or (lookup (λ k. k == n) every_size) sizes.Undecided
 
-abbrev pub size_of : Size → RowSize × RowSize
-size_of s = (Of s, Of s)
+-- The same in both forms: one that W and 66 or the operation decide, so many bytes, and one that the processor decides.
+abbrev pub size_of : Size → Size × Size
+size_of s = (s, s)
 
-abbrev pub size_v : RowSize × RowSize
+abbrev pub size : ℕ → Size × Size
+size n = size_of (Bytes n)
+
+abbrev pub undecided : Size × Size
+undecided = size_of sizes.Undecided
+
+abbrev pub size_v : Size × Size
 size_v = size_of V
 
-abbrev pub size_vq : RowSize × RowSize
+abbrev pub size_vq : Size × Size
 size_vq = size_of Vq
 
-abbrev pub size_dq : RowSize × RowSize
+abbrev pub size_dq : Size × Size
 size_dq = size_of Dq
 
 -- a size in the memory form, and that of v in the register form
-abbrev pub or_v : RowSize → RowSize × RowSize
+abbrev pub or_v : Size → Size × Size
 or_v s = (s, of_v)
 
 -- ---- rows
 
 -- a row: where, the prefixes, the name, the operands, the size, the change of the answer's prefixes, and the verdict
-abbrev pub row : Where → When → Names → OperandEncodings → RowSize × RowSize → PrefixChange → Verdict → FormRow
+abbrev pub row : Where → When → Names → Template → Size × Size → PrefixChange → Verdict → TemplateRow
 row at when names operands size change verdict =
-    record { at = at; when = when; names = names; operands = operands; in_memory = size.0; in_register = size.1; change = change; verdict = verdict }
+    record {
+      at = at;
+      when = when;
+      names = names;
+      template = record operands { in_memory = size.0; in_register = size.1 };
+      change = change;
+      verdict = verdict;
+    }
 
 -- a row that is read; one that changes the prefixes of the answer; and one whose operation a last byte names
-abbrev pub read : Where → When → Names → OperandEncodings → RowSize × RowSize → FormRow
+abbrev pub read : Where → When → Names → Template → Size × Size → TemplateRow
 read at when names operands size = row at when names operands size Keeps Accepts
 
-abbrev pub changing : PrefixChange → Where → When → Names → OperandEncodings → RowSize × RowSize → FormRow
+abbrev pub changing : PrefixChange → Where → When → Names → Template → Size × Size → TemplateRow
 changing change at when names operands size = row at when names operands size change Accepts
 
-abbrev pub suffixed : Where → When → OperandEncodings → RowSize × RowSize → FormRow
+abbrev pub suffixed : Where → When → Template → Size × Size → TemplateRow
 suffixed at when operands size = row at when (Name Invalid) operands size Keeps NamedBySuffix
 
 -- A row that is refused, and after which byte; the operands are those whose bytes it has. `otherwise` is wherever no row
 -- before it is.
-abbrev pub refusing : Where → When → OperandEncodings → Fault → Moment → FormRow
+abbrev pub refusing : Where → When → Template → Fault → Moment → TemplateRow
 refusing at when operands fault moment = row at when (Name Invalid) operands (size 0) Keeps (Refuses fault moment)
 
-abbrev pub refusal : Where → When → Fault → Moment → FormRow
+abbrev pub refusal : Where → When → Fault → Moment → TemplateRow
 refusal at when fault moment = refusing at when Zero fault moment
 
-abbrev pub otherwise : Fault → Moment → FormRow
+abbrev pub otherwise : Fault → Moment → TemplateRow
 otherwise fault moment = refusal both Always fault moment
 
 -- ---- forms with one row that is read, whose name is that of the opcode map
 
-abbrev pub without_modrm : OperandEncodings → RowSize × RowSize → List FormRow
+abbrev pub without_modrm : Template → Size × Size → List TemplateRow
 without_modrm operands size = read bare Always Own operands size ∷ []
 
-abbrev pub with_modrm : OperandEncodings → RowSize × RowSize → List FormRow
+abbrev pub with_modrm : Template → Size × Size → List TemplateRow
 with_modrm operands size = read both Always Own operands size ∷ []
 
 -- names by W and 66, in the order of the widths: of a word, of a doubleword, of a quadword
-abbrev pub named_by_v : ℕ → ℕ → ℕ → List FormRow
+abbrev pub named_by_v : ℕ → ℕ → ℕ → List TemplateRow
 named_by_v word double quad =
     read bare RexW (Name quad) Zero (size 0) ∷
     read bare With66 (Name word) Zero (size 0) ∷
     read bare Always (Name double) Zero (size 0) ∷ []
 
 -- a register form is refused after ModRM, and a memory form after its address
-abbrev pub with_memory : OperandEncodings → RowSize × RowSize → List FormRow
+abbrev pub with_memory : Template → Size × Size → List TemplateRow
 with_memory operands size = read mem Always Own operands size ∷ refusing both Always operands BadOperand AtModRM ∷ []
 
-abbrev pub with_register : OperandEncodings → RowSize × RowSize → List FormRow
+abbrev pub with_register : Template → Size × Size → List TemplateRow
 with_register operands size = read reg Always Own operands size ∷ refusing both Always operands BadOperand AfterAddress ∷ []

@@ -4,7 +4,7 @@ ghost use Rattle.x86_fields.specs.Pieces.{option_bytes};
 ghost use Rattle.x86_operands.specs.Asks.{immediate_width, modrm_of, part_width, plan_ask, uses_modrm};
 ghost use Rattle.x86_operands.specs.Columns.{plan_of_row};
 ghost use Rattle.x86_operands.specs.Encodings.{settled};
-ghost use Rattle.x86_operands.specs.Templates.{form_row, is_sound_row};
+ghost use Rattle.x86_operands.specs.Templates.{is_sound_row};
 
 use crate::order::Position;
 use crate::plans::{Fault, ModrmUse, OperandEncoding, Verdict};
@@ -94,7 +94,7 @@ impl TemplateRow {
     pub fn ask(&self, usage: ModrmUse, own: &TableRow, prefixes: &Prefixes, modrm: ModRM) -> Ask
         requires { is_sound_row self.now ≡ true }
         ensures { result ≡ plan_ask usage modrm
-            (plan_of_row (form_row self.now) own.now prefixes.now modrm) }
+            (plan_of_row self.now own.now prefixes.now modrm) }
     {
         let Template {
             order,

@@ -1,5 +1,5 @@
 //! What a row has whose form is a plain form.
-ghost use Rattle.std.specs.Prelude.{◌≡◌, ◌≤◌, ◌-◌, length, map, take, drop, slice_get, false, true};
+ghost use Rattle.std.specs.Prelude.{◌≡◌, ◌≤◌, ◌-◌, length, take, drop, slice_get, false, true};
 ghost use Rattle.std.specs.List.{list_all};
 ghost use Rattle.x86_fields.specs.Steps.{outcome};
 ghost use Rattle.x86_forms.specs.Groups.{is_group};
@@ -9,7 +9,7 @@ ghost use Rattle.x86_operands.specs.Columns.{is_placed, plan_of_row};
 ghost use Rattle.x86_operands.specs.Forms.{form_record, modrm_use, place_use};
 ghost use Rattle.x86_operands.specs.PlanSteps.{record_step};
 ghost use Rattle.x86_operands.specs.Rows.{form_rows};
-ghost use Rattle.x86_operands.specs.Templates.{form_row, is_sound_row};
+ghost use Rattle.x86_operands.specs.Templates.{is_sound_row};
 
 use crate::plans::ModrmUse;
 use crate::reader::{Reading, read_modrm};
@@ -24,8 +24,7 @@ use x86_forms::{Form, TableRow};
 fn span_of(form: Form) -> (&'static [TemplateRow], u16, u16)
     ensures ordered { result.1 ≤ result.2 }
     ensures inside { result.2 ≤ length result.0.now }
-    ensures rows { map form_row (take (result.2 - result.1) (drop result.1 result.0.now))
-        ≡ form_rows form }
+    ensures rows { take (result.2 - result.1) (drop result.1 result.0.now) ≡ form_rows form }
     ensures sound { list_all is_sound_row
         (take (result.2 - result.1) (drop result.1 result.0.now)) ≡ true }
 {
@@ -35,7 +34,7 @@ fn span_of(form: Form) -> (&'static [TemplateRow], u16, u16)
 
 /// The rows of a form.
 fn form_rows(form: Form) -> &'static [TemplateRow]
-    ensures rows { map form_row result.now ≡ form_rows form }
+    ensures rows { result.now ≡ form_rows form }
     ensures sound { list_all is_sound_row result.now ≡ true }
 {
     let (rows, first, end) = span_of(form);
@@ -74,7 +73,7 @@ pub fn form_modrm(form: Form) -> ModrmUse
 /// The row of a plain form at a ModRM byte; `own` is the row in the opcode map.
 #[tactic(auto, unfolding(crate::specs::Forms::form_plan, crate::specs::Forms::form_record))]
 pub fn chosen_row(own: &TableRow, prefixes: &Prefixes, modrm: ModRM) -> TemplateRow
-    ensures plan { plan_of_row (form_row result) own.now prefixes.now modrm
+    ensures plan { plan_of_row result own.now prefixes.now modrm
         ≡ (form_record own.now prefixes.now).plan modrm }
     ensures sound { is_sound_row result ≡ true }
     ensures placed { is_placed result.at.place modrm ≡ true }

@@ -8,7 +8,8 @@ ghost use Rattle.x86_operands.specs.PlanSteps.{read_plan, register_slot};
 ghost use Rattle.x86_operands.specs.OperandList.{reg_pair, rm_pair, fixed_pair, no_operands, reading_with, value_if_ok, put_in, put_at, put_encoded, encoded_read, leading_read, rm_read, other_read, all_read, sized, slot_in, operand_in};
 ghost use Rattle.x86_operands.specs.Places.{place_after_address, place_of};
 ghost use Rattle.x86_operands.specs.Encodings.{settled, size_bytes};
-ghost use Rattle.x86_operands.specs.Templates.{fits_form, is_field, is_last, is_read_at, is_sound, size_at, template_plan};
+ghost use Rattle.x86_operands.specs.Plans.{template_plan};
+ghost use Rattle.x86_operands.specs.Templates.{fits_form, is_field, is_last, is_read_at, is_sound, size_at};
 
 use crate::order::{Order, Position};
 use crate::places::place_of;

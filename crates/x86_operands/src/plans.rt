@@ -1,7 +1,6 @@
 //! The vocabulary of the rows' records.
 pub use x86_fields::UNDECIDED_SIZE;
 use x86_fields::Width;
-use x86_opcodes::Opcode;
 use x86_regs::RegisterClass;
 
 /// The slot of a register that isn't known from the encoding of its operand.
@@ -114,16 +113,6 @@ impl OperandEncoding {
 
 const B: RegisterClass = RegisterClass::B;
 
-/// The operands of a row or of a plan, at most four.
-#[derive(Clone, Copy, Drop)]
-pub enum OperandEncodings {
-    Zero,
-    One(OperandEncoding),
-    Two(OperandEncoding, OperandEncoding),
-    Three(OperandEncoding, OperandEncoding, OperandEncoding),
-    Four(OperandEncoding, OperandEncoding, OperandEncoding, OperandEncoding),
-}
-
 /// After which byte a record refuses.
 #[derive(Clone, Copy, Drop)]
 pub enum Moment {
@@ -169,20 +158,4 @@ pub enum ModrmUse {
     EitherForm,
     /// A ModRM byte of which every mod is a register form.
     Registers,
-}
-
-/// What a record has after ModRM, and what it yields.
-#[derive(Clone, Copy, Drop)]
-pub struct Plan {
-    /// The operation, unless a suffix names it.
-    pub opcode: Opcode,
-    /// What each operand is, in their order, which is that of their immediates too.
-    pub encodings: OperandEncodings,
-    /// The memory size in bytes, which the row has for the operation: 0 where it has none, and 63 where the processor
-    /// decides.
-    pub size: u8,
-    /// What changes in the prefixes of the answer.
-    pub change: PrefixChange,
-    /// Whether there is an answer.
-    pub verdict: Verdict,
 }

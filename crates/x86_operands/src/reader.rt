@@ -9,7 +9,7 @@ ghost use Rattle.x86_operands.specs.Places.{plan_places};
 ghost use Rattle.x86_operands.specs.PlanSteps.{changed, suffix_opcode, refuse_at, read_opcode, read_plan, read_modrm, refuse_fault};
 ghost use Rattle.x86_operands.specs.Asks.{uses_suffix};
 ghost use Rattle.x86_operands.specs.RowSteps.{address_skipped, early_step, skips_address};
-ghost use Rattle.x86_operands.specs.Templates.{form_row, is_sound_row};
+ghost use Rattle.x86_operands.specs.Templates.{is_sound_row};
 
 use crate::operand_list::Operands;
 use crate::order::Position;
@@ -195,10 +195,10 @@ impl TemplateRow {
         ensures read { outcome
             (value_if_ok result (reading_with opcode.new prefixes.new operand_list.new))
             (T.state reader.new) ≡ read_plan
-            (plan_of_row (form_row self.now) own.now prefixes.old modrm) prefixes.old modrm
+            (plan_of_row self.now own.now prefixes.old modrm) prefixes.old modrm
             (T.state reader.old) }
         ensures places { OnOk result (places.new ≡ plan_places
-            (plan_of_row (form_row self.now) own.now prefixes.old modrm) prefixes.old modrm
+            (plan_of_row self.now own.now prefixes.old modrm) prefixes.old modrm
             (T.state reader.old) places.old.opcode_end) }
     {
         self.refuse_early(reader, prefixes, modrm)?;
@@ -229,7 +229,7 @@ impl TemplateRow {
         requires sound { is_sound_row self.now ≡ true }
         requires placed { is_placed self.now.at.place modrm ≡ true }
         ensures { outcome result (T.state reader.new) ≡ read_plan
-            (plan_of_row (form_row self.now) own.now prefixes modrm) prefixes modrm
+            (plan_of_row self.now own.now prefixes modrm) prefixes modrm
             (T.state reader.old) }
     {
         let mut prefixes = prefixes;

@@ -1,11 +1,10 @@
 //! Rows of forms: where each is, and what it has there. The first row that holds counts.
-ghost use Rattle.std.specs.Prelude.{◌≡◌, ◌&&◌, map, true};
+ghost use Rattle.std.specs.Prelude.{◌≡◌, ◌&&◌, true};
 ghost use Rattle.std.specs.List.{list_all};
 ghost use Rattle.x86_operands.specs.Columns.{choose, is_placed, is_prefixed, is_reg, is_rm, is_named, opcode_of};
-ghost use Rattle.x86_operands.specs.Templates.{form_row, is_sound_row};
+ghost use Rattle.x86_operands.specs.Templates.{is_sound_row};
 
-use crate::plans::{OperandEncoding, OperandEncodings, PrefixChange, Verdict};
-use crate::sizing::Size;
+use crate::plans::{OperandEncoding, PrefixChange, Verdict};
 use crate::templates::Template;
 use x86_fields::{Mandatory, ModRM, Prefixes};
 use x86_forms::TableRow;
@@ -78,15 +77,6 @@ pub enum Names {
     ByRm([u16; 8]),
 }
 
-/// The memory size of a row: of what is read or written, or, where nothing is accessed, as of LEA, NOP and prefetches, the
-/// size that the row has.
-#[derive(Clone, Copy, Drop)]
-pub enum RowSize {
-    Bytes(u8),
-    /// That of W and 66, or of the operation.
-    Of(Size),
-}
-
 /// With which ModRM bytes a row is.
 #[derive(Clone, Copy, Drop)]
 pub struct Where {
@@ -95,30 +85,15 @@ pub struct Where {
     pub rm: Rm,
 }
 
-/// A row of a form as the definitions have it: where it is, and what it has there.
-#[derive(Clone, Copy, Drop)]
-pub struct FormRow {
-    pub at: Where,
-    pub when: When,
-    pub names: Names,
-    /// The operands. Those of a row that refuses are the ones whose bytes it has.
-    pub operands: OperandEncodings,
-    /// The memory size in the memory form.
-    pub in_memory: RowSize,
-    /// The same in the register form, and without ModRM.
-    pub in_register: RowSize,
-    /// What changes in the prefixes of the answer.
-    pub change: PrefixChange,
-    pub verdict: Verdict,
-}
-
-/// A row of a form as it is read: the same, with a template for its operands.
+/// A row of a form: where it is, and what it has there.
 #[derive(Clone, Copy, Drop)]
 pub struct TemplateRow {
     pub at: Where,
     pub when: When,
     pub names: Names,
+    /// The operands and the memory size. The operands of a row that refuses are those whose bytes it has.
     pub template: Template,
+    /// What changes in the prefixes of the answer.
     pub change: PrefixChange,
     pub verdict: Verdict,
 }
@@ -207,8 +182,7 @@ pub fn choose(
     prefixes: &Prefixes,
     modrm: ModRM,
 ) -> TemplateRow
-    ensures row { form_row result
-        ≡ choose (map form_row rows.now) own.now strict prefixes.now modrm }
+    ensures row { result ≡ choose rows.now own.now strict prefixes.now modrm }
     ensures sound { list_all is_sound_row rows.now ≡ true → is_sound_row result ≡ true }
     ensures placed { is_placed result.at.place modrm ≡ true }
 {

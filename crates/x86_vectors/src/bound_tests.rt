@@ -5,9 +5,9 @@ use x86_arch::{Arch, Decoder, ReadError, Reader, U8Reader};
 use x86_decode::{DecodeError, InstDecoder, Instruction, Opcode, Operand, RegSpec};
 
 /// An instruction set whose instructions are single bytes.
-struct Bytes;
+struct ByteArch;
 
-impl Arch for Bytes {
+impl Arch for ByteArch {
     type Address = u64;
 
     type Word = u8;
@@ -23,7 +23,7 @@ impl Arch for Bytes {
 
 struct ByteDecoder;
 
-impl Decoder<Bytes> for ByteDecoder {
+impl Decoder<ByteArch> for ByteDecoder {
     ghost decodes = { λ decoder old result new. IfOk result (λ byte. old.left ≡ byte ∷ new.left) };
 
     ghost blank = { 0 };
@@ -61,7 +61,7 @@ fn first<A: Arch, D: Decoder<A>, T: Reader<A::Address, A::Word>>(
 fn a_decoder_through_its_bound(rt: HostRuntime) {
     let mut words = U8Reader::new(&[9, 8]);
     let mut inst = 7;
-    let read = first::<Bytes, ByteDecoder, U8Reader>(&ByteDecoder, &mut words);
+    let read = first::<ByteArch, ByteDecoder, U8Reader>(&ByteDecoder, &mut words);
     assert!(rt; matches!(read, Ok(9)));
     assert!(rt; matches!(ByteDecoder.decode_into(&mut inst, &mut words), Ok(())));
     assert!(rt; inst == 8);

@@ -9,7 +9,7 @@ use Rattle.x86_fields.specs.declared.raw.Raw.{Raw}
 use Rattle.x86_fields.specs.Parts.{PartLists}
 use Rattle.x86_forms.specs.Words.{rows_of, packed}
 use Rattle.x86_operands.specs.declared.plans.OperandEncoding.{OperandEncoding}
-use Rattle.x86_operands.specs.Plans.{list_of}
+use Rattle.x86_operands.specs.Plans.{plan_encodings}
 use Rattle.x86_decode.specs.declared.instructions.Instruction.{Instruction}
 use Rattle.x86_decode.specs.Head.{Rows, seen_by}
 use Rattle.x86_fields.specs.Run.{reading_of}
@@ -138,7 +138,7 @@ head_same {p} {q} {a} {b} e f g = cc
 module _ (strict : Bool) (s : List ℕ) (i : Instruction) (f : Encodes R strict true s i) where
   -- the operand encodings at its row
   pub named : (k : ℕ) (raw : Raw) → HasRaw R strict f k raw → names_modrm (encodings_within R strict s f.reading (whole_in R strict true s i f)) k ≡ true
-  named k raw has = subst (λ q. names_modrm (list_of q.encodings) k ≡ true) (plan_is R strict true s i f) has.1
+  named k raw has = subst (λ q. names_modrm (plan_encodings q) k ≡ true) (plan_is R strict true s i f) has.1
 
   pub operand_form : (k : ℕ) (raw : Raw) → HasRaw R strict f k raw → is_ip_relative raw ≡ false →
       HasOperandForm strict s f.reading (whole_in R strict true s i f) false

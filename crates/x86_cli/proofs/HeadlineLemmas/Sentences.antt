@@ -13,11 +13,10 @@ use Rattle.x86_operands.specs.declared.operands.Slot.{Slot}
 use Rattle.x86_operands.specs.declared.operands.Operand.{Operand}
 use Rattle.x86_operands.specs.declared.places.Places.{Places}
 use Rattle.x86_operands.specs.declared.plans.Fault.{Fault}
-use Rattle.x86_operands.specs.declared.plans.Plan.{Plan}
 use Rattle.x86_operands.specs.declared.reader.Reading.{Reading}
 use Rattle.x86_operands.specs.Asks.{modrm_of}
 use Rattle.x86_operands.specs.Pieces.{SpellsMemory, SpellsOperands, RefusesRow, modrm_width, suffix_width, opcode_by}
-use Rattle.x86_operands.specs.Plans.{RowRecord, is_refusal, list_of}
+use Rattle.x86_operands.specs.Plans.{RowRecord, is_refusal, plan_encodings}
 use Rattle.x86_operands.specs.PlanSteps.{four_of, reading_from}
 use Rattle.x86_groups.specs.Groups.{record_of}
 use Rattle.x86_decode.specs.declared.instructions.Instruction.{Instruction}
@@ -159,9 +158,9 @@ module _ (rows : Rows) (strict : Bool) where
                 spelled = refl;
                 address_spelled = subst (λ p. SpellsMemory p m address f.memory) f.sees
                     (subst (λ m. SpellsMemory f.seen m address f.memory) modrm_is f.address_spelled);
-                immediates_spelled = subst (λ q. SpellsOperands (list_of q.encodings) p m f.memory f.parts.immediate f.operands) plan_is
-                    (subst (λ p. SpellsOperands (list_of f.plan.encodings) p m f.memory f.parts.immediate f.operands) f.sees
-                    (subst (λ m. SpellsOperands (list_of f.plan.encodings) f.seen m f.memory f.parts.immediate f.operands) modrm_is f.immediates_spelled));
+                immediates_spelled = subst (λ q. SpellsOperands (plan_encodings q) p m f.memory f.parts.immediate f.operands) plan_is
+                    (subst (λ p. SpellsOperands (plan_encodings f.plan) p m f.memory f.parts.immediate f.operands) f.sees
+                    (subst (λ m. SpellsOperands (plan_encodings f.plan) f.seen m f.memory f.parts.immediate f.operands) modrm_is f.immediates_spelled));
                 suffix_length = subst (λ q. length f.parts.suffix ≡ suffix_width q.verdict) plan_is f.suffix_length;
               };
               opcode = f.operation;

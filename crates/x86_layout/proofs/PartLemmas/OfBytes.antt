@@ -215,9 +215,9 @@ beginning_of strict bytes {instruction = i} value answer counts long beginning =
 
 -- ---- the lengths of parts
 
-immediate_small : (strict : Bool) (row : TableRow) (p : Prefixes) (m : ℕ) → immediates_width ((record_of strict row p).plan m).encodings ≤ 8
+immediate_small : (strict : Bool) (row : TableRow) (p : Prefixes) (m : ℕ) → immediates_width ((record_of strict row p).plan m) ≤ 8
 immediate_small strict row p m =
-    cond_both (is_group row.form) (group_record strict row p) (form_record row p) (λ r. immediates_width (r.plan m).encodings ≤ 8)
+    cond_both (is_group row.form) (group_record strict row p) (form_record row p) (λ r. immediates_width (r.plan m) ≤ 8)
     (λ _. group_narrow strict row p m) (λ _. plain_narrow row p m)
 
 pub lengths_of : {strict : Bool} {s : List ℕ} {reading : Reading} {w : Encoding strict s reading} {p : PartLists} →

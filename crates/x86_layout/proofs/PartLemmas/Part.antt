@@ -100,7 +100,7 @@ module _ {r : RowRecord} {p : Prefixes} {tail : List ℕ} {reading : Reading} (a
   abbrev m : ℕ
   m = modrm_of r.modrm a.modrm
 
-  pub immediates_long : length a.tail_spelled.pieces.immediates ≡ immediates_width (r.plan m).encodings
+  pub immediates_long : length a.tail_spelled.pieces.immediates ≡ immediates_width (r.plan m)
   immediates_long = operands_long _ p m _ _ _ a.tail_spelled.pieces.immediates_spelled
 
   -- further bytes come after the pieces of a row

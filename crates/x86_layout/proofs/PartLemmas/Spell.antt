@@ -14,7 +14,7 @@ use Rattle.x86_operands.specs.declared.plans.OperandEncoding.{OperandEncoding}
 use Rattle.x86_operands.specs.declared.plans.Verdict.{Verdict}
 use Rattle.x86_operands.specs.declared.plans.Verdict.TheVariants.{Accepts, NamedBySuffix, Refuses}
 use Rattle.x86_operands.specs.declared.reader.Reading.{Reading}
-use Rattle.x86_operands.specs.Plans.{RowRecord, is_refusal, list_of}
+use Rattle.x86_operands.specs.Plans.{RowRecord, is_refusal, plan_encodings}
 use Rattle.x86_operands.specs.Asks.{immediate_width, modrm_of, uses_modrm, uses_suffix, immediates_width, record_at}
 use Rattle.x86_operands.specs.Pieces.{operand_from, opcode_by, SpellsOperands, SpellsMemory, SpellsRow}
 use Rattle.x86_operands.specs.PlanSteps.{four_of, reading_from, suffix_opcode}
@@ -119,7 +119,7 @@ module _ (r : RowRecord) (p : Prefixes) (f : fields.Fields) where
       let sib_n : one_if (is_some f.sib) ≡ sib_width m = counts.1 in
       let suffix_n : one_if (is_some f.suffix) ≡ one_if (uses_suffix v) = counts.4 in
       let memory = spell_memory p m f.sib f.displacement.items sib_n counts.2 in
-      let operand_pairs = spell_operands (list_of (r.plan m).encodings) p m memory.0 f.immediate.items counts.3 in
+      let operand_pairs = spell_operands (plan_encodings (r.plan m)) p m memory.0 f.immediate.items counts.3 in
       let accepted : is_refusal v ≡ false = let either = passed.1 in grind arith in
       let named = named_by v (r.plan m).opcode f.suffix accepted passed.2 suffix_n in
       record {
@@ -181,7 +181,7 @@ module _ {r : RowRecord} {p : Prefixes} {tail : List ℕ} {reading : Reading} (f
       let sib : one_if (is_some f.sib) ≡ sib_width at = cc (option_count f.sib, h.sib, same_at) in
       let displacement : length f.displacement.items ≡ displacement_length at f.sib =
       cc (displacement_long a (option_bytes f.sib) f.displacement.items h.address h.sib, first_of f.sib, same_at) in
-      let immediate : length f.immediate.items ≡ immediates_width (r.plan at).encodings = cc (h.immediate, immediates_long a, same_at) in
+      let immediate : length f.immediate.items ≡ immediates_width (r.plan at) = cc (h.immediate, immediates_long a, same_at) in
       let suffix : one_if (is_some f.suffix) ≡ one_if (uses_suffix (r.plan at).verdict) =
       cc (option_count f.suffix, h.suffix, a.tail_spelled.pieces.suffix_length, verdict_width (r.plan (modrm_of r.modrm a.modrm)).verdict, same_at) in
       (tests_five _ _ _ _ _ _ _ _ _ _).1 (modrm, sib, displacement, immediate, suffix)

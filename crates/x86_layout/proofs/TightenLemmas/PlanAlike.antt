@@ -9,23 +9,21 @@ use Rattle.x86_fields.specs.ModRM.{reg_field, is_memory}
 use Rattle.x86_fields.specs.Raw.{has_r, has_w}
 use Rattle.x86_forms.specs.declared.Form.{Form}
 use Rattle.x86_operands.specs.declared.plans.ModrmUse.TheVariants.{EitherForm}
-use Rattle.x86_operands.specs.declared.plans.Plan.{Plan}
 use Rattle.x86_forms.specs.declared.Form.TheVariants as form
 use Rattle.x86_forms.specs.declared.TableRow.{TableRow}
 use Rattle.x86_forms.specs.Groups.{is_group}
-use Rattle.x86_operands.specs.Plans.{RowRecord, is_refusal, list_of}
+use Rattle.x86_operands.specs.Plans.{Plan, RowRecord, is_refusal, plan_encodings}
 use Rattle.x86_operands.specs.Forms.{form_plan, form_record}
 use Rattle.x86_decode.specs.Addresses.{is_modrm_encoding}
 use Rattle.x86_layout.specs.Tightening.Tighten.{bits_in}
 use Rattle.x86_operands.specs.declared.plans.OperandEncoding.{OperandEncoding}
-use Rattle.x86_operands.specs.declared.plans.OperandEncodings.{OperandEncodings}
-use Rattle.x86_operands.specs.declared.rows.FormRow.{FormRow}
-use Rattle.x86_forms.specs.Words.{carried}
+use Rattle.x86_operands.specs.declared.rows.TemplateRow.{TemplateRow}
 use Rattle.x86_operands.specs.Columns.{choose, plan_of_row}
-use Rattle.x86_operands.specs.Encodings.{all_settled, settled}
+use Rattle.x86_operands.specs.Encodings.{settled}
 use Rattle.x86_operands.specs.Rows.{form_rows}
 use Rattle.x86_operands.proofs.PlainLemmas as form_facts
 use Rattle.x86_operands.proofs.ColumnLemmas.{SamePrefixes, no_rm_names, in_memory, rm_free_encoding, first_in_memory, rows_alike}
+use Rattle.x86_operands.proofs.TemplateLemmas.{all_same, any_same, row_encodings}
 use Rattle.x86_groups.specs.Groups.{is_f3_alone, group_fault, group_plan, group_record, record_of}
 use Rattle.x86_groups.specs.Rows.{group_rows}
 use Rattle.x86_groups.proofs.GroupLemmas as group_facts
@@ -91,7 +89,7 @@ module _ (strict : Bool) (row : TableRow) (p : Prefixes) (x b : Bool) (m n : ℕ
 
 -- a plan refuses, or writes ModRM's memory operand
 abbrev pub writes : Plan → Bool
-writes plan = is_refusal plan.verdict || list_any is_modrm_encoding (list_of plan.encodings)
+writes plan = is_refusal plan.verdict || list_any is_modrm_encoding (plan_encodings plan)
 
 settled_is : (s : OperandEncoding) (n : ℕ) (p : Prefixes) → is_modrm_encoding (settled s n p) ≡ is_modrm_encoding s
 settled_is s n p = grind arith
@@ -99,26 +97,18 @@ settled_is s n p = grind arith
 settled_free : (s : OperandEncoding) (n : ℕ) (p : Prefixes) → rm_free_encoding (settled s n p) ≡ rm_free_encoding s
 settled_free s n p = grind arith
 
-any_settled : (operands : OperandEncodings) (n : ℕ) (p : Prefixes) →
-    list_any is_modrm_encoding (list_of (all_settled operands n p)) ≡ list_any is_modrm_encoding (list_of operands)
-any_settled operands n p = grind (arith, settled_is)
-
-all_free : (operands : OperandEncodings) (n : ℕ) (p : Prefixes) →
-    list_all rm_free_encoding (list_of (all_settled operands n p)) ≡ list_all rm_free_encoding (list_of operands)
-all_free operands n p = grind (arith, settled_free)
-
 module _ (own : TableRow) (p : Prefixes) (m : ℕ) where
-  chosen_writes : (chosen : FormRow) → in_memory chosen ≡ true → writes (plan_of_row chosen own p m) ≡ true
+  chosen_writes : (chosen : TemplateRow) → in_memory chosen ≡ true → writes (plan_of_row chosen own p m) ≡ true
   chosen_writes chosen h =
       let x = and_parts (no_rm_names chosen.names) _ h in
-      let y = and_parts (list_all rm_free_encoding (list_of chosen.operands)) _ x.1 in
-      rw (any_settled chosen.operands (carried own.form) p) y.1
+      let y = and_parts (list_all rm_free_encoding (row_encodings chosen)) _ x.1 in
+      rw (any_same is_modrm_encoding settled_is chosen own p m) y.1
 
-  chosen_free : (chosen : FormRow) → in_memory chosen ≡ true → list_all rm_free_encoding (list_of (plan_of_row chosen own p m).encodings) ≡ true
+  chosen_free : (chosen : TemplateRow) → in_memory chosen ≡ true → list_all rm_free_encoding (plan_encodings (plan_of_row chosen own p m)) ≡ true
   chosen_free chosen h =
       let x = and_parts (no_rm_names chosen.names) _ h in
-      let y = and_parts (list_all rm_free_encoding (list_of chosen.operands)) _ x.1 in
-      all_free chosen.operands (carried own.form) p ∙ y.0
+      let y = and_parts (list_all rm_free_encoding (row_encodings chosen)) _ x.1 in
+      all_same rm_free_encoding settled_free chosen own p m ∙ y.0
 
 module _ (strict : Bool) (row : TableRow) (p : Prefixes) (m : ℕ) (mm : is_memory m ≡ true) where
   by_kind : (group : Bool) → (By strict row group p).modrm ≡ EitherForm → writes ((By strict row group p).plan m) ≡ true
@@ -129,7 +119,7 @@ module _ (strict : Bool) (row : TableRow) (p : Prefixes) (m : ℕ) (mm : is_memo
       (first_in_memory (form_rows row.form) row false p m (form_facts.rows_keep_reg row.form usage) mm)
 
   free_by_kind : (group : Bool) → (By strict row group p).modrm ≡ EitherForm →
-      list_all rm_free_encoding (list_of ((By strict row group p).plan m).encodings) ≡ true
+      list_all rm_free_encoding (plan_encodings ((By strict row group p).plan m)) ≡ true
   unfolding group_record group_plan form_record form_plan
   free_by_kind true usage = chosen_free row p m (choose (group_rows row.form) row strict p m)
       (first_in_memory (group_rows row.form) row strict p m (group_facts.rows_keep_reg row.form) mm)
@@ -137,9 +127,9 @@ module _ (strict : Bool) (row : TableRow) (p : Prefixes) (m : ℕ) (mm : is_memo
       (first_in_memory (form_rows row.form) row false p m (form_facts.rows_keep_reg row.form usage) mm)
 
   -- the operands go neither by rm nor by X or B
-  pub row_is_free : (record_of strict row p).modrm ≡ EitherForm → list_all rm_free_encoding (list_of ((record_of strict row p).plan m).encodings) ≡ true
+  pub row_is_free : (record_of strict row p).modrm ≡ EitherForm → list_all rm_free_encoding (plan_encodings ((record_of strict row p).plan m)) ≡ true
   row_is_free usage = free_by_kind (is_group row.form) usage
 
   pub row_writes : (record_of strict row p).modrm ≡ EitherForm → is_refusal ((record_of strict row p).plan m).verdict ≡ false →
-      list_any is_modrm_encoding (list_of ((record_of strict row p).plan m).encodings) ≡ true
+      list_any is_modrm_encoding (plan_encodings ((record_of strict row p).plan m)) ≡ true
   row_writes usage accepted = cc (by_kind (is_group row.form) usage, accepted)

@@ -9,25 +9,24 @@ use Rattle.x86_forms.specs.declared.Form.{Form}
 use Rattle.x86_forms.specs.declared.Form.TheVariants as form
 use Rattle.x86_forms.specs.declared.TableRow.{TableRow}
 use Rattle.x86_forms.specs.Groups.{is_group}
-use Rattle.x86_forms.specs.Words.{carried, rows_of, packed}
+use Rattle.x86_forms.specs.Words.{rows_of, packed}
 use Rattle.x86_operands.specs.declared.operands.Operand.{Operand}
 use Rattle.x86_operands.specs.declared.operands.Slot.{Slot}
 use Rattle.x86_operands.specs.declared.operands.Slot.TheVariants as slots
 use Rattle.x86_operands.specs.declared.plans.ModrmUse.TheVariants.{Registers}
 use Rattle.x86_operands.specs.declared.plans.OperandEncoding.{OperandEncoding}
 use Rattle.x86_operands.specs.declared.plans.OperandEncoding.TheVariants as encoding
-use Rattle.x86_operands.specs.declared.plans.OperandEncodings.{OperandEncodings}
-use Rattle.x86_operands.specs.declared.plans.Plan.{Plan}
-use Rattle.x86_operands.specs.declared.rows.FormRow.{FormRow}
+use Rattle.x86_operands.specs.declared.rows.TemplateRow.{TemplateRow}
 use Rattle.x86_operands.specs.Columns.{choose, plan_of_row}
-use Rattle.x86_operands.specs.Encodings.{all_settled, settled}
+use Rattle.x86_operands.specs.Encodings.{settled}
 use Rattle.x86_operands.specs.Forms.{form_record, modrm_use, rows_use}
 use Rattle.x86_operands.specs.Operands.{is_memory_slot}
 use Rattle.x86_operands.specs.Pieces.{SpellsOperands}
-use Rattle.x86_operands.specs.Plans.{list_of}
+use Rattle.x86_operands.specs.Plans.{Plan, plan_encodings}
 use Rattle.x86_operands.specs.PlanSteps.{pair_at}
 use Rattle.x86_operands.specs.Rows.{form_rows}
 use Rattle.x86_operands.proofs.ColumnLemmas.{chosen_has}
+use Rattle.x86_operands.proofs.TemplateLemmas.{all_same, row_encodings}
 use Rattle.x86_groups.specs.Groups.{group_modrm, group_plan, group_record, record_of}
 use Rattle.x86_groups.specs.Rows.{group_rows}
 use Rattle.x86_decode.specs.declared.instructions.Instruction.{Instruction}
@@ -44,18 +43,14 @@ is_register encoding.Cr = true
 is_register encoding.Dr = true
 is_register s = false
 
-abbrev AreRegisters : OperandEncodings → Type 0
-AreRegisters operands = list_all is_register (list_of operands) ≡ true
+abbrev AreRegisters : Plan → Type 0
+AreRegisters plan = list_all is_register (plan_encodings plan) ≡ true
 
 settled_is : (s : OperandEncoding) (n : ℕ) (p : Prefixes) → is_register (settled s n p) ≡ is_register s
 settled_is s n p = grind arith
 
-all_settled_are : (operands : OperandEncodings) (n : ℕ) (p : Prefixes) →
-    list_all is_register (list_of (all_settled operands n p)) ≡ list_all is_register (list_of operands)
-all_settled_are operands n p = grind (arith, settled_is)
-
-abbrev has_registers : FormRow → Bool
-has_registers row = list_all is_register (list_of row.operands)
+abbrev has_registers : TemplateRow → Bool
+has_registers row = list_all is_register (row_encodings row)
 
 rows_have_registers : (f : Form) → group_modrm f ≡ Registers → list_all has_registers (group_rows f) ≡ true
 unfolding group_rows
@@ -66,16 +61,16 @@ rows_have_registers form.Dq_Rq_0 e = refl
 rows_have_registers f e = absurd cc
 
 -- a plain form looks at mod
-no_plain : (rows : List FormRow) → rows_use rows ≡ Registers → ⊥
+no_plain : (rows : List TemplateRow) → rows_use rows ≡ Registers → ⊥
 no_plain [] e = cc
 no_plain (row ∷ rest) e = grind arith
 
 module _ (strict : Bool) (row : TableRow) (p : Prefixes) (m : ℕ) where
   by_kind : (group : Bool) → (if group then group_record strict row p else form_record row p).modrm ≡ Registers →
-      AreRegisters ((if group then group_record strict row p else form_record row p).plan m).encodings
+      AreRegisters ((if group then group_record strict row p else form_record row p).plan m)
   unfolding group_record group_plan form_record modrm_use
-  by_kind true e = chosen_has (λ chosen. AreRegisters (plan_of_row chosen row p m).encodings) has_registers row strict p m
-      refl (λ chosen h there. all_settled_are chosen.operands (carried row.form) p ∙ h) (group_rows row.form) (rows_have_registers row.form e)
+  by_kind true e = chosen_has (λ chosen. AreRegisters (plan_of_row chosen row p m)) has_registers row strict p m
+      refl (λ chosen h there. all_same is_register settled_is chosen row p m ∙ h) (group_rows row.form) (rows_have_registers row.form e)
   by_kind false e = absurd (no_plain (form_rows row.form) e)
 
 -- ---- their slots

@@ -8,11 +8,10 @@ use Rattle.x86_operands.specs.declared.operands.Operand.{Operand}
 use Rattle.x86_operands.specs.declared.plans.OperandEncoding.{OperandEncoding}
 use Rattle.x86_operands.specs.declared.plans.PrefixChange.{PrefixChange}
 use Rattle.x86_operands.specs.declared.plans.ModrmUse.TheVariants.{EitherForm}
-use Rattle.x86_operands.specs.declared.plans.Plan.{Plan}
 use Rattle.x86_operands.specs.declared.reader.Reading.{Reading}
 use Rattle.x86_operands.specs.Operands.{is_memory_slot, shape}
 use Rattle.x86_fields.specs.ModRM.{is_memory}
-use Rattle.x86_operands.specs.Plans.{RowRecord, list_of}
+use Rattle.x86_operands.specs.Plans.{Plan, RowRecord, plan_encodings}
 use Rattle.x86_operands.specs.PlanSteps.{pair_at, four_of, changed, reading_from}
 use Rattle.x86_operands.specs.Pieces.{operand_from, SpellsOperands, SpellsTail, SpellsRow, modrm_width}
 use Rattle.x86_decode.specs.Grammar.{allows_lock}
@@ -74,7 +73,7 @@ module _ (p q : Prefixes) (m n : ℕ) (raw other : Raw) where
   rerowed r plan tail address reading h same read memory spells passed usage planned =
       let s = h.pieces in
       let encodings = rw read at s.immediates_spelled in
-      let new = regiven (list_of plan.encodings) s.immediates s.operand_pairs encodings in
+      let new = regiven (plan_encodings plan) s.immediates s.operand_pairs encodings in
       let again : Reading = reading_from plan q h.opcode (four_of new.pairs) in
       let lock : allows_lock again ≡ allows_lock (reading_from plan p h.opcode (four_of s.operand_pairs)) = cc (lock_of_change plan.change same, new.first) in
       record {

@@ -19,10 +19,9 @@ use Rattle.x86_operands.specs.declared.operands.Operand.{Operand}
 use Rattle.x86_operands.specs.declared.operands.Operand.TheVariants as operands
 use Rattle.x86_operands.specs.declared.plans.OperandEncoding.{OperandEncoding}
 use Rattle.x86_operands.specs.declared.plans.PrefixChange.{PrefixChange}
-use Rattle.x86_operands.specs.declared.plans.Plan.{Plan}
 use Rattle.x86_operands.specs.declared.reader.Reading.{Reading}
 use Rattle.x86_operands.specs.Operands.{shape, operand_address}
-use Rattle.x86_operands.specs.Plans.{list_of, reg_number}
+use Rattle.x86_operands.specs.Plans.{Plan, plan_encodings, reg_number}
 use Rattle.x86_operands.proofs.ColumnLemmas.{rm_free_encoding}
 use Rattle.x86_operands.specs.PlanSteps.{pair_at, four_of, changed, pointer_class, reading_from}
 use Rattle.x86_operands.specs.Pieces.{operand_from, SpellsOperands, SpellsTail}
@@ -122,7 +121,7 @@ module _ (from to : Raw) where
 
     module _ (m n : ℕ) (register : reg_field n ≡ reg_field m) where
       tails : {plan other : Plan} {tail end : List ℕ} {a b : Reading} (h : SpellsTail plan p m tail a) (g : SpellsTail other q n end b)
-          (i j : Places) (k l : ℕ) → other ≡ plan → list_all rm_free_encoding (list_of plan.encodings) ≡ true →
+          (i j : Places) (k l : ℕ) → other ≡ plan → list_all rm_free_encoding (plan_encodings plan) ≡ true →
           h.pieces.memory ≡ Some from → g.pieces.memory ≡ Some to → g.pieces.immediates ≡ h.pieces.immediates →
           g.pieces.suffix ≡ h.pieces.suffix → IsSameButInMemory from to (instruction_of a i k) (instruction_of b j l)
       tails {plan = plan} {b = b} h g i j k l planned free old new immediates suffix =
@@ -130,7 +129,7 @@ module _ (from to : Raw) where
           let y = g.pieces in
           let spelled = rw old at x.immediates_spelled in
           let third = rw (planned, new, immediates) at y.immediates_spelled in
-          let pairs = pairs_alike p q m n alike register (list_of plan.encodings) x.immediates x.operand_pairs y.operand_pairs free spelled third in
+          let pairs = pairs_alike p q m n alike register (plan_encodings plan) x.immediates x.operand_pairs y.operand_pairs free spelled third in
           let yields : b ≡ reading_from plan q h.opcode (four_of y.operand_pairs) = cc (g.yields, planned, g.named, suffix, h.named) in
           rw (h.yields, yields) (built plan h.opcode i j k l x.operand_pairs y.operand_pairs pairs)
 

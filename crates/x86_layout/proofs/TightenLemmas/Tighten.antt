@@ -2,9 +2,8 @@
 use Rattle.std.specs.List.{list_any}
 use Rattle.x86_operands.specs.Operands.{is_memory_slot, shape}
 use Rattle.x86_operands.specs.Pieces.{is_modrm_encoding, names_modrm, SpellsMemory}
-use Rattle.x86_operands.specs.Plans.{list_of}
+use Rattle.x86_operands.proofs.TieLemmas.{at_most_four}
 use Rattle.x86_operands.specs.declared.plans.OperandEncoding.{OperandEncoding}
-use Rattle.x86_operands.specs.declared.plans.OperandEncodings.{OperandEncodings}
 use Rattle.x86_forms.specs.Words.{rows_of, packed}
 use Rattle.x86_decode.specs.Addresses.{encodings_within, plan_within}
 use Rattle.x86_decode.specs.Grammar.{IsSentence}
@@ -126,9 +125,6 @@ named_at (s ∷ rest) h = by (is_modrm_encoding s) refl (λ k. named_at rest k)
     by true e others = (zero, (omega arith, e))
     by false e others = let found = others (rw e at h) in let l = found.1.0 in (suc found.0, (omega (arith, l), found.1.1))
 
-few : (encodings : OperandEncodings) → length (list_of encodings) ≤ 4
-few encodings = grind arith
-
 module _ {strict : Bool} {s : List ℕ} {a : Instruction} (is : IsSentence (rows_of packed) strict s a)
     (slots : (raw : Raw) (k : ℕ) → Reads is.whole raw →
     names_modrm (encodings_within (rows_of packed) strict s is.reading is.whole) k ≡ true → slot_at a k ≡ (shape raw).0)
@@ -144,7 +140,7 @@ module _ {strict : Bool} {s : List ℕ} {a : Instruction} (is : IsSentence (rows
           let at = named_at (encodings_within (rows_of packed) strict s is.reading is.whole)
           (operand_form is.whole some.0 some.1 (is_ip_relative some.0) refl).operand.written in
           let slot = slots some.0 at.0 some.1 at.1.1 in
-          let below : at.0 < 4 = let l = at.1.0 in let f = few (plan_within (rows_of packed) strict s is.reading is.whole).encodings in omega (arith, l, f) in
+          let below : at.0 < 4 = let l = at.1.0 in let f = at_most_four (plan_within (rows_of packed) strict s is.reading is.whole) in omega (arith, l, f) in
           cc (slot, is_shape some.0, none at.0 below)
 
 -- ---- a memory form by its byte
