@@ -7,7 +7,8 @@ ghost use Rattle.x86_operands.specs.Encodings.{named_size, size_bytes};
 use x86_fields::SizePrefixes;
 use x86_opcodes::Opcode;
 
-/// A memory size in bytes: by itself, by W and 66, or by the operation.
+/// A memory size in bytes, by itself, by W and 66, or by the operation: of what is read or written, or, where nothing is
+/// accessed, as of LEA, NOP and prefetches, the size that the row has.
 #[derive(Clone, Copy, Drop)]
 pub enum Size {
     Zero,
