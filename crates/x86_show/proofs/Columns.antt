@@ -4,8 +4,8 @@ use Rattle.std.specs.Prelude.{codes, replicate}
 use Rattle.std.proofs.lemmas.List.{take-append-drop, length-take-le}
 use Rattle.std.proofs.lemmas.Grind.{flat_map-append, common_steps}
 use Rattle.hex.specs.Hex.{encode_with}
-use Rattle.x86_lines.specs.Hexadecimal.{spaced_byte, spaced_bytes}
-use Rattle.x86_lines.proofs.HexadecimalLemmas.{beginning}
+use Rattle.x86_streams.specs.Lines.Hexadecimal.{spaced_byte, spaced_bytes}
+use Rattle.x86_streams.proofs.LineLemmas.Hexadecimal.{beginning}
 use Rattle.x86_show.specs.Lines.{column}
 use Rattle.x86_show.proofs.Blanks.{first_blanks}
 
