@@ -13,9 +13,13 @@ shown_room = 528
 abbrev pub tab : List ℕ
 tab = 9 ∷ []
 
--- the address, and the bytes in a column that is as wide as seven of them
+-- the bytes in a column that is as wide as seven of them
+abbrev pub column : List ℕ → List ℕ
+column bytes = spaced_bytes bytes ++ replicate (21 - 3 * length bytes) 32
+
+-- the address, and the bytes in their column
 unfoldable pub beginning : ℕ → List ℕ → List ℕ
-beginning address bytes = hexadecimal address ++ codes ":" ++ tab ++ spaced_bytes bytes ++ replicate (21 - 3 * length bytes) 32 ++ tab
+beginning address bytes = hexadecimal address ++ codes ":" ++ tab ++ column bytes ++ tab
 
 -- the address after an instruction
 abbrev pub next_of : ℕ → Instruction → ℕ

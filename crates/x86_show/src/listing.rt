@@ -1,11 +1,11 @@
 //! The listing of a text, line by line.
 
-ghost use Rattle.std.specs.Prelude.{◌≡◌, ◌<◌, ◌≤◌, Ok, length, take};
+ghost use Rattle.std.specs.Prelude.{◌≡◌, ◌+◌, ◌<◌, ◌≤◌, ◌++◌, Ok, length, take};
 ghost use Rattle.arrayvec.specs.ArrayVec.{array_vec_len};
 ghost use Rattle.x86_decode.specs.Answer.{answer_of};
 ghost use Rattle.x86_decode.specs.Decoder.{is_strict};
 ghost use Rattle.x86_layout.specs.Parts.OfBytes.{parts_of};
-ghost use Rattle.x86_show.specs.Lines.{shown_room, beginning, shown_text, vector_text, refused_text};
+ghost use Rattle.x86_show.specs.Lines.{shown_room, column, beginning, shown_text, vector_text, refused_text};
 ghost use Rattle.x86_show.specs.Listing.{shown_at, known_at, showing};
 
 use crate::text::put_instruction;
@@ -26,40 +26,91 @@ use x86_streams::{Input, Output, Window};
 /// How many bytes a line has room for, its end included.
 const ROOM: usize = 528;
 
-/// Writes the address, and the bytes in a column that is as wide as seven of them.
-#[tactic(auto, unfolding(crate::specs::Lines::beginning), using(crate::proofs::Blanks::first_blanks))]
-fn put_beginning(cells: &mut [u8], address: u64, bytes: &[u8]) -> usize
-    requires room { 128 ≤ length cells.old }
+/// Writes so many of the first seven bytes in a column that is as wide as they are: all of them, and blanks over the others.
+/// So no loop depends on the number.
+#[inline(always)]
+fn put_some_of_seven(cells: &mut [u8], at: usize, known: &[u8], count: usize) -> usize
+    requires there { 7 ≤ length known.now }
+    requires few { count ≤ 7 }
+    requires room { at + 64 ≤ length cells.old }
+    ensures text { take result cells.new ≡ take at cells.old ++ column (take count known.now) }
+    ensures short { result ≤ at + 21 }
+{
+    put_spaced_bytes(cells, at, &known[..7]);
+    put_first(
+        cells,
+        at + 3 * count,
+        b"                                ",
+        21 - 3 * count,
+    )
+}
+
+/// Writes bytes in a column that is as wide as seven of them, or wider where they are more.
+#[inline(never)]
+fn put_any_bytes(cells: &mut [u8], at: usize, bytes: &[u8]) -> usize
     requires few { length bytes.now ≤ 15 }
-    ensures text { take result cells.new ≡ beginning address bytes.now }
+    requires room { at + 80 ≤ length cells.old }
+    ensures text { take result cells.new ≡ take at cells.old ++ column bytes.now }
+    ensures short { result ≤ at + 45 }
+{
+    let at = put_spaced_bytes(cells, at, bytes);
+    let blanks = 21usize.saturating_sub(3 * bytes.len());
+    put_first(cells, at, b"                                ", blanks)
+}
+
+/// Writes the first bytes of those that are known, in their column.
+#[inline(always)]
+fn put_column(cells: &mut [u8], at: usize, known: &[u8], count: usize) -> usize
+    requires few { count ≤ 15 }
+    requires there { count ≤ length known.now }
+    requires room { at + 80 ≤ length cells.old }
+    ensures text { take result cells.new ≡ take at cells.old ++ column (take count known.now) }
+    ensures short { result ≤ at + 45 }
+{
+    if count <= 7 && known.len() >= 7 {
+        put_some_of_seven(cells, at, known, count)
+    } else {
+        put_any_bytes(cells, at, &known[..count])
+    }
+}
+
+/// Writes the address, and the first bytes of those that are known, in a column that is as wide as seven of them.
+#[inline(always)]
+#[tactic(auto, unfolding(crate::specs::Lines::beginning))]
+fn put_beginning(cells: &mut [u8], address: u64, known: &[u8], count: usize) -> usize
+    requires room { 128 ≤ length cells.old }
+    requires few { count ≤ 15 }
+    requires there { count ≤ length known.now }
+    ensures text { take result cells.new ≡ beginning address (take count known.now) }
     ensures short { result ≤ 64 }
 {
     let at = put_hexadecimal(cells, 0, address);
     let at = put(cells, at, b':');
     let at = put(cells, at, b'\t');
-    let at = put_spaced_bytes(cells, at, bytes);
-    let blanks = 21usize.saturating_sub(3 * bytes.len());
-    let at = put_first(cells, at, b"                                ", blanks);
+    let at = put_column(cells, at, known, count);
     put(cells, at, b'\t')
 }
 
-/// Writes the line of an instruction over another, without its end.
+/// Writes the line of an instruction over another, without its end. The instruction has the first bytes of those that are known.
 fn write_shown(
     line: &mut Room<ROOM>,
     decoder: &InstDecoder,
     address: u64,
     instruction: &Instruction,
-    bytes: &[u8],
+    known: &[u8],
+    count: usize,
 )
-    requires few { length bytes.now ≤ 15 }
-    requires answered { answer_of (is_strict decoder.now) bytes.now ≡ Ok instruction.now }
-    ensures text { line.new.items ≡ shown_text address bytes.now instruction.now
-        (parts_of (is_strict decoder.now) bytes.now) }
+    requires few { count ≤ 15 }
+    requires there { count ≤ length known.now }
+    requires answered { answer_of (is_strict decoder.now) (take count known.now)
+        ≡ Ok instruction.now }
+    ensures text { line.new.items ≡ shown_text address (take count known.now) instruction.now
+        (parts_of (is_strict decoder.now) (take count known.now)) }
     ensures short { array_vec_len line.new < shown_room }
 {
-    let at = put_beginning(&mut line.cells, address, bytes);
+    let at = put_beginning(&mut line.cells, address, known, count);
     let next = address.wrapping_add(length_of(instruction));
-    let parts = split_decoded(decoder, instruction, bytes);
+    let parts = split_decoded(decoder, instruction, &known[..count]);
     line.len = put_instruction(&mut line.cells, at, instruction, &parts, next);
 }
 
@@ -69,7 +120,7 @@ fn write_vector(line: &mut Room<ROOM>, address: u64, bytes: &[u8])
     ensures text { line.new.items ≡ vector_text address bytes.now }
     ensures short { array_vec_len line.new < shown_room }
 {
-    let at = put_beginning(&mut line.cells, address, bytes);
+    let at = put_beginning(&mut line.cells, address, bytes, bytes.len());
     line.len = put_bytes(&mut line.cells, at, b"(vex)");
 }
 
@@ -79,7 +130,7 @@ fn write_bad(line: &mut Room<ROOM>, address: u64, bytes: &[u8])
     ensures text { line.new.items ≡ refused_text address bytes.now }
     ensures short { array_vec_len line.new < shown_room }
 {
-    let at = put_beginning(&mut line.cells, address, bytes);
+    let at = put_beginning(&mut line.cells, address, bytes, bytes.len());
     line.len = put_bytes(&mut line.cells, at, b"(bad)");
 }
 
@@ -110,7 +161,7 @@ impl Course<ROOM> for ShowAt {
         match decoder.decode_slice_into(inst, bytes) {
             Ok(()) => {
                 let length = length_of(inst);
-                write_shown(line, decoder, address, inst, &bytes[..length as usize]);
+                write_shown(line, decoder, address, inst, bytes, length as usize);
                 Entry::Line(length)
             }
             Err(error) => match shown_at(window, error) {

@@ -111,6 +111,14 @@ offset_text c p =
 abbrev pub is_rare_move : Context → Bool
 is_rare_move c = is_map_one c.map && (is_offset c || is_among (0x8c ∷ 0x8e ∷ []) c.opcode && not (is_memory c.modrm))
 
+-- the operands are written as the decoder answers them
+abbrev pub is_as_answered : Context → Entry → Bool
+is_as_answered c e = (shape_letter e == letter (codes "-")) || (shape_letter e == letter (codes "k")) && not (is_rare_move c)
+
+-- the operand is the address that a relative branch leads to
+abbrev pub is_target_alone : Context → Entry → Bool
+is_target_alone c e = (shape_letter e == letter (codes "j")) || (shape_letter e == letter (codes "J")) && not c.has_modrm
+
 -- a register of x87
 abbrev pub x87_register : Operand → List ℕ
 x87_register (operand.Register r) = register_text r
@@ -212,11 +220,11 @@ module _ (c : Context) (i : Instruction) (e : Entry) (p : PartLists) where
       else (if shape_letter e == letter (codes "k") then (if is_offset c then offset_text c p else segment_move_text)
       else last_text))))))))
 
-  -- `-` as the decoder answers them; `j` a target; `J` a target, or the operand that ModRM spells
+  -- `J` is the operand that ModRM spells
+  abbrev pub unlisted_text : List ℕ
+  unlisted_text = if shape_letter e == letter (codes "J") then listed_operand 0 else rare_text
+
+  -- `-` as the decoder answers them; `j` a target; `J` a target, where there is no ModRM
   unfoldable pub listed_operands : ℕ → List ℕ
   listed_operands next =
-      if shape_letter e == letter (codes "-") then list_text (operands_of i)
-      else (if (shape_letter e == letter (codes "k")) && not (is_rare_move c) then list_text (operands_of i)
-      else (if shape_letter e == letter (codes "j") then target_text next p.immediate
-      else (if shape_letter e == letter (codes "J") then (if c.has_modrm then listed_operand 0 else target_text next p.immediate)
-      else rare_text)))
+      if is_as_answered c e then list_text (operands_of i) else (if is_target_alone c e then target_text next p.immediate else unlisted_text)

@@ -118,12 +118,21 @@ fn group_size(context: &Context, entry: &Entry) -> u8
     }
 }
 
+/// The letter of a group, by a copy of the context.
+#[inline(always)]
+fn group_size_apart(context: &Context, entry: &Entry) -> u8
+    ensures { result ≡ group_size context.now entry.now }
+{
+    let context = *context;
+    group_size(&context, entry)
+}
+
 #[inline(always)]
 fn size_by(letter: u8, context: &Context, entry: &Entry) -> u8
     ensures { result ≡ size_by letter context.now entry.now }
 {
     match letter {
-        b'g' => group_size(context, entry),
+        b'g' => group_size_apart(context, entry),
         b'r' if context.modrm.is_memory() => b'-',
         b'r' => b'v',
         _ => letter,

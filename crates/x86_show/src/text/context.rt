@@ -1,12 +1,11 @@
 //! What the rules of the text read of an encoding.
 
-ghost use Rattle.std.specs.Prelude.{◌≡◌, IsTrue, slice_index};
-ghost use Rattle.std.specs.List.{list_all};
+ghost use Rattle.std.specs.Prelude.{◌≡◌, slice_index};
 ghost use Rattle.x86_fields.specs.Parts.{lists_of};
-ghost use Rattle.x86_fields.specs.Run.{is_prefix, reading_of};
+ghost use Rattle.x86_fields.specs.Run.{reading_of};
 ghost use Rattle.x86_show.specs.Text.Context.{map_after, modrm_or_absent, context_of, is_some_byte, has_two_bytes, is_one, is_0f, is_offset, is_exchange, is_shadow_read};
 
-use x86_fields::{ModRM, Parts, Prefixes, reading_of};
+use x86_fields::{ModRM, Parts, Prefixes};
 use x86_forms::Map;
 
 /// What the rules of the text read of an encoding.
@@ -72,23 +71,11 @@ fn modrm_or_absent(bytes: &[u8]) -> ModRM
     }
 }
 
-/// What a run selects.
-#[inline(always)]
-fn prefixes_of(run: &[u8]) -> Prefixes
-    requires { IsTrue (list_all is_prefix run.now) }
-    ensures { result ≡ reading_of run.now }
-{
-    match run {
-        [] => Prefixes::none(),
-        _ => reading_of(run),
-    }
-}
-
 impl Context {
-    /// What the rules read of these parts.
+    /// What the rules read of these parts, whose run selects these prefixes.
     #[inline(always)]
-    pub fn of(parts: &Parts) -> Context
-        requires { IsTrue (list_all is_prefix parts.now.prefixes.now) }
+    pub fn of(parts: &Parts, prefixes: Prefixes) -> Context
+        requires { prefixes ≡ reading_of parts.now.prefixes.now }
         ensures { result ≡ context_of (lists_of parts.now) }
     {
         Context {
@@ -97,7 +84,7 @@ impl Context {
             modrm: modrm_or_absent(parts.modrm),
             has_modrm: is_some_byte(parts.modrm),
             has_sib: is_some_byte(parts.sib),
-            prefixes: prefixes_of(parts.prefixes),
+            prefixes,
         }
     }
 

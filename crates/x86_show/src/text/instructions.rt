@@ -3,7 +3,7 @@
 ghost use Rattle.std.specs.Prelude.{◌≡◌, ◌+◌, ◌-◌, ◌≤◌, ◌++◌, IsTrue, length, replicate, take};
 ghost use Rattle.std.specs.List.{list_all};
 ghost use Rattle.x86_fields.specs.Parts.{lists_of, HasFieldLengths};
-ghost use Rattle.x86_fields.specs.Run.{is_prefix};
+ghost use Rattle.x86_fields.specs.Run.{is_prefix, reading_of};
 ghost use Rattle.x86_show.specs.Text.Context.{context_of};
 ghost use Rattle.x86_show.specs.Text.Instructions.{remark_text, head_text, shown_by, listed_text};
 
@@ -15,7 +15,7 @@ use crate::text::operands::{Shown, put_operands};
 use crate::text::rex::names_memory;
 use crate::text::words::put_prefixes;
 use x86_decode::Instruction;
-use x86_fields::Parts;
+use x86_fields::{Parts, Prefixes, is_rex, reading_of};
 use x86_lines::cells::put_first;
 use x86_lines::hexadecimal::put_prefixed;
 
@@ -90,9 +90,63 @@ fn put_shown(cells: &mut [u8], at: usize, shown: &Shown, next: u64) -> usize
     }
 }
 
-/// Writes the text of an instruction with these parts, where the next instruction is at the address `next`.
+/// Writes the text of an instruction with these parts, whose run selects these prefixes.
 #[inline(always)]
 #[tactic(auto, unfolding(crate::specs::Text::Instructions::listed_text))]
+fn put_selected(
+    cells: &mut [u8],
+    at: usize,
+    inst: &Instruction,
+    parts: &Parts,
+    prefixes: Prefixes,
+    next: u64,
+) -> usize
+    requires reading { prefixes ≡ reading_of parts.now.prefixes.now }
+    requires lengths { HasFieldLengths (lists_of parts.now) }
+    requires room { at + 449 ≤ length cells.old }
+    ensures text { take result cells.new ≡
+        take at cells.old ++ listed_text inst.now (lists_of parts.now) next }
+    ensures short { result ≤ at + 443 }
+{
+    let shown = Shown {
+        context: &Context::of(parts, prefixes),
+        inst,
+        entry: entry_for(inst.opcode()),
+        parts,
+    };
+    put_shown(cells, at, &shown, next)
+}
+
+/// Writes the text of an instruction with these parts, whatever its run has.
+#[inline(never)]
+fn put_after_run(cells: &mut [u8], at: usize, inst: &Instruction, parts: &Parts, next: u64) -> usize
+    requires prefixes { IsTrue (list_all is_prefix parts.now.prefixes.now) }
+    requires lengths { HasFieldLengths (lists_of parts.now) }
+    requires room { at + 449 ≤ length cells.old }
+    ensures text { take result cells.new ≡
+        take at cells.old ++ listed_text inst.now (lists_of parts.now) next }
+    ensures short { result ≤ at + 443 }
+{
+    put_selected(cells, at, inst, parts, reading_of(parts.prefixes), next)
+}
+
+/// Calls `put_after_run` with a copy of the parts, so that the caller's need no memory.
+#[inline(always)]
+fn put_apart(cells: &mut [u8], at: usize, inst: &Instruction, parts: &Parts, next: u64) -> usize
+    requires prefixes { IsTrue (list_all is_prefix parts.now.prefixes.now) }
+    requires lengths { HasFieldLengths (lists_of parts.now) }
+    requires room { at + 449 ≤ length cells.old }
+    ensures text { take result cells.new ≡
+        take at cells.old ++ listed_text inst.now (lists_of parts.now) next }
+    ensures short { result ≤ at + 443 }
+{
+    let parts = *parts;
+    put_after_run(cells, at, inst, &parts, next)
+}
+
+/// Writes the text of an instruction with these parts, where the next instruction is at the address `next`. Most have no
+/// prefix but a REX.
+#[inline(always)]
 pub fn put_instruction(
     cells: &mut [u8],
     at: usize,
@@ -107,11 +161,10 @@ pub fn put_instruction(
         take at cells.old ++ listed_text inst.now (lists_of parts.now) next }
     ensures short { result ≤ at + 443 }
 {
-    let shown = Shown {
-        context: &Context::of(parts),
-        inst,
-        entry: entry_for(inst.opcode()),
-        parts,
+    let prefixes = match parts.prefixes {
+        [] => Prefixes::none(),
+        [byte] if is_rex(*byte) => Prefixes::none().after(*byte),
+        _ => return put_apart(cells, at, inst, parts, next),
     };
-    put_shown(cells, at, &shown, next)
+    put_selected(cells, at, inst, parts, prefixes, next)
 }

@@ -76,7 +76,7 @@ pub fn is_relative(context: &Context) -> bool
     context.has_modrm && (context.modrm.mod_field() == 0 && context.modrm.rm_field() == 5)
 }
 
-#[inline(never)]
+#[inline(always)]
 fn put_relative(cells: &mut [u8], at: usize, context: &Context, disp: i64) -> usize
     requires { at + 22 ≤ length cells.old }
     ensures text { take result cells.new ≡ take at cells.old ++ relative_text context.now disp }
@@ -267,6 +267,17 @@ fn put_sib_memory(cells: &mut [u8], at: usize, context: &Context, sib: Sib, disp
     put(cells, at, b']')
 }
 
+/// Calls `put_sib_memory` with a copy of the context, so that the caller's needs no memory.
+#[inline(always)]
+fn put_apart(cells: &mut [u8], at: usize, context: &Context, sib: Sib, disp: i64) -> usize
+    requires { at + 48 ≤ length cells.old }
+    ensures text { take result cells.new ≡ take at cells.old ++ sib_memory context.now sib disp }
+    ensures short { result ≤ at + 40 }
+{
+    let context = *context;
+    put_sib_memory(cells, at, &context, sib, disp)
+}
+
 /// Writes memory that ModRM spells, without its size.
 #[inline(always)]
 #[tactic(auto, unfolding(crate::specs::Text::Memory::memory_text))]
@@ -279,6 +290,6 @@ pub fn put_memory(cells: &mut [u8], at: usize, context: &Context, parts: &Parts)
     let disp = signed_of(parts.displacement);
     match parts.sib {
         [] => put_plain_memory(cells, at, context, disp),
-        [sib, ..] => put_sib_memory(cells, at, context, Sib::new(*sib), disp),
+        [sib, ..] => put_apart(cells, at, context, Sib::new(*sib), disp),
     }
 }

@@ -1,6 +1,6 @@
 //! The names of operations.
 
-ghost use Rattle.std.specs.Prelude.{◌≡◌, ◌+◌, ◌<◌, ◌≤◌, ◌++◌, [], IsTrue, get_or, length, take};
+ghost use Rattle.std.specs.Prelude.{◌≡◌, ℕ, List, ◌+◌, ◌<◌, ◌≤◌, ◌++◌, [], IsTrue, get_or, length, take};
 ghost use Rattle.x86_show.specs.Text.Entries.{entry_for, stem, name_letter, shape_letter, own_size, memory_letter, reg_letter, rm_letter};
 ghost use Rattle.x86_show.specs.Text.Names.{name_in_one, name_of_01, name_of_18, name_in_of, special_name, pushes_short, suffix_of, is_plain, is_in_name, comparisons, comparison_name, name_unless, product_name, name_with_immediate, long_name, listed_name};
 
@@ -312,6 +312,48 @@ fn put_long_name(
     put_bytes(cells, at, suffix_of(context, entry.name_letter()))
 }
 
+/// Calls `put_long_name` with a copy of the context, so that the caller's needs no memory.
+#[inline(always)]
+fn put_apart(
+    cells: &mut [u8],
+    at: usize,
+    context: &Context,
+    entry: &Entry,
+    immediate: &[u8],
+) -> usize
+    requires short { entry.now.len ≤ 16 }
+    requires room { at + 48 ≤ length cells.old }
+    ensures text { take result cells.new ≡
+        take at cells.old ++ long_name context.now entry.now immediate.now }
+    ensures short { result ≤ at + 32 }
+{
+    let context = *context;
+    put_long_name(cells, at, &context, entry, immediate)
+}
+
+/// Whether no encoding of the one-byte map up to this opcode byte has a name of its own.
+#[inline(always)]
+#[tactic(auto, unfolding(crate::specs::Text::Names::special_name))]
+fn is_early(context: &Context) -> bool
+    ensures { IsTrue result → special_name context.now ≡ [] }
+{
+    matches!(context.map, Map::One) && context.opcode < 0x90
+}
+
+/// Whether a name that may have more is the stem, where a few tests show it.
+#[inline(always)]
+#[tactic(auto, unfolding(crate::specs::Text::Names::long_name, crate::specs::Text::Names::suffix_of))]
+fn is_stem(context: &Context, entry: &Entry) -> bool
+    ensures { IsTrue result → (immediate : List ℕ) →
+        long_name context.now entry.now immediate ≡ stem entry.now }
+{
+    match entry.name_letter() {
+        b'k' => is_early(context),
+        b'w' | b's' => !context.prefixes.operand_size(),
+        _ => false,
+    }
+}
+
 /// Writes the name of an operation that has these bytes of immediates.
 #[inline(always)]
 pub fn put_name(
@@ -327,9 +369,9 @@ pub fn put_name(
         take at cells.old ++ listed_name context.now entry.now immediate.now }
     ensures short { result ≤ at + 32 }
 {
-    if entry.name_letter() == b'-' {
+    if entry.name_letter() == b'-' || is_stem(context, entry) {
         put_stem(cells, at, entry)
     } else {
-        put_long_name(cells, at, context, entry, immediate)
+        put_apart(cells, at, context, entry, immediate)
     }
 }

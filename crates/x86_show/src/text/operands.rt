@@ -2,10 +2,11 @@
 
 ghost use Rattle.std.specs.Prelude.{◌≡◌, ◌+◌, ◌*◌, ◌<◌, ◌≤◌, ◌++◌, length, take};
 ghost use Rattle.x86_fields.specs.Parts.{lists_of};
-ghost use Rattle.x86_decode.specs.Instruction.{operands_of};
+ghost use Rattle.x86_decode.specs.Instruction.{operands_of, slot_at};
+ghost use Rattle.x86_show.specs.Text.Immediates.{immediate_text};
 ghost use Rattle.x86_show.specs.Text.Memory.{memory_text};
 ghost use Rattle.x86_show.specs.Text.Sizes.{memory_size, size_words};
-ghost use Rattle.x86_show.specs.Text.Operands.{operand_by, listed_operand, following_operands, list_text, first_text, target_text, is_rare_move, listed_operands};
+ghost use Rattle.x86_show.specs.Text.Operands.{operand_by, listed_operand, following_operands, list_text, first_text, target_text, is_rare_move, is_as_answered, is_target_alone, unlisted_text, listed_operands, comma};
 
 use crate::text::context::Context;
 use crate::text::immediates::put_immediate;
@@ -47,6 +48,18 @@ fn put_sized_memory(cells: &mut [u8], at: usize, shown: &Shown) -> usize
     put_memory(cells, at, shown.context, shown.parts)
 }
 
+/// Writes an immediate by a copy of the context.
+#[inline(always)]
+fn put_immediate_apart(cells: &mut [u8], at: usize, context: &Context, bytes: &[u8]) -> usize
+    requires { at + 18 ≤ length cells.old }
+    ensures text { take result cells.new ≡
+        take at cells.old ++ immediate_text context.now bytes.now }
+    ensures short { result ≤ at + 18 }
+{
+    let context = *context;
+    put_immediate(cells, at, &context, bytes)
+}
+
 /// Writes an operand that comes from a slot.
 #[inline(always)]
 fn put_operand(cells: &mut [u8], at: usize, shown: &Shown, slot: Slot, operand: &Operand) -> usize
@@ -68,7 +81,7 @@ fn put_operand(cells: &mut [u8], at: usize, shown: &Shown, slot: Slot, operand: 
         | Operand::ImmediateU32 { .. }
         | Operand::ImmediateI64 { .. }
         | Operand::ImmediateU64 { .. } => {
-            put_immediate(cells, at, shown.context, shown.parts.immediate)
+            put_immediate_apart(cells, at, shown.context, shown.parts.immediate)
         }
         _ => put_sized_memory(cells, at, shown),
     }
@@ -88,6 +101,7 @@ pub fn put_operand_at(cells: &mut [u8], at: usize, shown: &Shown, k: u8) -> usiz
 }
 
 /// Writes operands from an index on, each after a comma.
+#[inline(never)]
 fn put_others(cells: &mut [u8], at: usize, shown: &Shown, k: u8, others: &[Operand]) -> usize
     requires there { k + length others.now ≤ 4 }
     requires room { at + 53 * length others.now + 64 ≤ length cells.old }
@@ -106,6 +120,40 @@ fn put_others(cells: &mut [u8], at: usize, shown: &Shown, k: u8, others: &[Opera
     }
 }
 
+/// Writes the operands after the second, each after a comma. Few instructions have any.
+#[inline(always)]
+fn put_after_second(cells: &mut [u8], at: usize, shown: &Shown, others: &[Operand]) -> usize
+    requires few { length others.now ≤ 2 }
+    requires room { at + 170 ≤ length cells.old }
+    ensures text { take result cells.new ≡ take at cells.old
+        ++ following_operands shown.now.context.now shown.now.inst.now shown.now.entry.now (lists_of shown.now.parts.now)
+        2 others.now }
+    ensures short { result ≤ at + 106 }
+{
+    let context = *shown.context;
+    let parts = *shown.parts;
+    let shown = Shown {
+        context: &context,
+        inst: shown.inst,
+        entry: shown.entry,
+        parts: &parts,
+    };
+    put_others(cells, at, &shown, 2, others)
+}
+
+/// Writes the second operand after a comma.
+#[inline(always)]
+fn put_second(cells: &mut [u8], at: usize, shown: &Shown, second: &Operand) -> usize
+    requires { at + 65 ≤ length cells.old }
+    ensures text { take result cells.new ≡ take at cells.old
+        ++ comma ++ operand_by shown.now.context.now shown.now.inst.now shown.now.entry.now (lists_of shown.now.parts.now)
+        (slot_at shown.now.inst.now 1) second.now }
+    ensures short { result ≤ at + 53 }
+{
+    let at = put(cells, at, b',');
+    put_operand(cells, at, shown, shown.inst.slot(1), second)
+}
+
 /// Writes the first operands, joined by commas.
 #[inline(always)]
 fn put_list(cells: &mut [u8], at: usize, shown: &Shown, operands: &[Operand]) -> usize
@@ -118,9 +166,15 @@ fn put_list(cells: &mut [u8], at: usize, shown: &Shown, operands: &[Operand]) ->
 {
     match operands {
         [] => at,
-        [first, others @ ..] => {
+        [first] => put_operand(cells, at, shown, shown.inst.slot(0), first),
+        [first, second] => {
             let at = put_operand(cells, at, shown, shown.inst.slot(0), first);
-            put_others(cells, at, shown, 1, others)
+            put_second(cells, at, shown, second)
+        }
+        [first, second, others @ ..] => {
+            let at = put_operand(cells, at, shown, shown.inst.slot(0), first);
+            let at = put_second(cells, at, shown, second);
+            put_after_second(cells, at, shown, others)
         }
     }
 }
@@ -185,6 +239,63 @@ fn is_rare_move(context: &Context) -> bool
             || matches!(context.opcode, 0x8c | 0x8e) && !context.modrm.is_memory())
 }
 
+/// Whether the operands are written as the decoder answers them.
+#[inline(always)]
+fn is_as_answered(shown: &Shown) -> bool
+    ensures { result ≡ is_as_answered shown.now.context.now shown.now.entry.now }
+{
+    match shown.entry.shape_letter() {
+        b'-' => true,
+        b'k' => !is_rare_move(shown.context),
+        _ => false,
+    }
+}
+
+/// Whether the operand is the address that a relative branch leads to.
+#[inline(always)]
+fn is_target_alone(shown: &Shown) -> bool
+    ensures { result ≡ is_target_alone shown.now.context.now shown.now.entry.now }
+{
+    match shown.entry.shape_letter() {
+        b'j' => true,
+        b'J' => !shown.context.has_modrm,
+        _ => false,
+    }
+}
+
+/// Writes operands that are neither.
+#[inline(never)]
+fn put_unlisted(cells: &mut [u8], at: usize, shown: &Shown) -> usize
+    requires { at + 276 ≤ length cells.old }
+    ensures text { take result cells.new ≡ take at cells.old
+        ++ unlisted_text shown.now.context.now shown.now.inst.now shown.now.entry.now (lists_of shown.now.parts.now) }
+    ensures short { result ≤ at + 250 }
+{
+    match shown.entry.shape_letter() {
+        b'J' => put_operand_at(cells, at, shown, 0),
+        _ => put_rarely(cells, at, shown),
+    }
+}
+
+/// Calls `put_unlisted` with copies, so that what the caller shows needs no memory.
+#[inline(always)]
+fn put_apart(cells: &mut [u8], at: usize, shown: &Shown) -> usize
+    requires { at + 276 ≤ length cells.old }
+    ensures text { take result cells.new ≡ take at cells.old
+        ++ unlisted_text shown.now.context.now shown.now.inst.now shown.now.entry.now (lists_of shown.now.parts.now) }
+    ensures short { result ≤ at + 250 }
+{
+    let context = *shown.context;
+    let parts = *shown.parts;
+    let shown = Shown {
+        context: &context,
+        inst: shown.inst,
+        entry: shown.entry,
+        parts: &parts,
+    };
+    put_unlisted(cells, at, &shown)
+}
+
 /// Writes the operands of an instruction, where the next instruction is at the address `next`.
 #[inline(always)]
 #[tactic(auto, unfolding(crate::specs::Text::Operands::listed_operands))]
@@ -195,12 +306,11 @@ pub fn put_operands(cells: &mut [u8], at: usize, shown: &Shown, next: u64) -> us
         next }
     ensures short { result ≤ at + 250 }
 {
-    match shown.entry.shape_letter() {
-        b'-' => put_all(cells, at, shown),
-        b'k' if !is_rare_move(shown.context) => put_all(cells, at, shown),
-        b'j' => put_target(cells, at, next, shown.parts.immediate),
-        b'J' if shown.context.has_modrm => put_operand_at(cells, at, shown, 0),
-        b'J' => put_target(cells, at, next, shown.parts.immediate),
-        _ => put_rarely(cells, at, shown),
+    if is_as_answered(shown) {
+        put_all(cells, at, shown)
+    } else if is_target_alone(shown) {
+        put_target(cells, at, next, shown.parts.immediate)
+    } else {
+        put_apart(cells, at, shown)
     }
 }

@@ -11,6 +11,7 @@ use x86_opcodes::Opcode;
 use x86_operands::{Operand, Slot};
 use x86_regs::RegisterClass;
 
+#[inline(always)]
 fn is_high(operand: &Operand) -> bool
     ensures { result ≡ is_high operand.now }
 {
@@ -20,12 +21,14 @@ fn is_high(operand: &Operand) -> bool
     }
 }
 
+#[inline(always)]
 fn is_reg_slot(slot: Slot) -> bool
     ensures { result ≡ is_reg_slot slot }
 {
     matches!(slot, Slot::Reg)
 }
 
+#[inline(always)]
 fn is_high_reg(inst: &Instruction, k: u8) -> bool
     requires { k ≤ 3 }
     ensures { result ≡ is_high_reg inst.now k }
@@ -34,6 +37,7 @@ fn is_high_reg(inst: &Instruction, k: u8) -> bool
 }
 
 /// Whether R extends reg.
+#[inline(always)]
 fn reads_r(context: &Context, inst: &Instruction) -> bool
     ensures { result ≡ reads_r context.now inst.now }
 {
@@ -43,12 +47,14 @@ fn reads_r(context: &Context, inst: &Instruction) -> bool
 }
 
 /// Whether an operand is memory.
+#[inline(always)]
 pub fn names_memory(inst: &Instruction) -> bool
     ensures { result ≡ names_memory inst.now }
 {
     inst.slot(0).is_memory() || inst.slot(1).is_memory()
 }
 
+#[inline(always)]
 fn is_high_base(context: &Context, inst: &Instruction, k: u8) -> bool
     requires { k ≤ 3 }
     ensures { result ≡ is_high_base context.now inst.now k }
@@ -57,6 +63,7 @@ fn is_high_base(context: &Context, inst: &Instruction, k: u8) -> bool
 }
 
 /// Whether B extends rm, the base of memory, or the register in the opcode byte.
+#[inline(always)]
 fn reads_b(context: &Context, inst: &Instruction) -> bool
     ensures { result ≡ reads_b context.now inst.now }
 {
@@ -65,6 +72,7 @@ fn reads_b(context: &Context, inst: &Instruction) -> bool
             && !(inst.opcode() == Opcode::FNSTSW)
 }
 
+#[inline(always)]
 fn is_new_byte(operand: &Operand) -> bool
     ensures { result ≡ is_new_byte operand.now }
 {
@@ -75,18 +83,21 @@ fn is_new_byte(operand: &Operand) -> bool
 }
 
 /// Whether a byte register is named that needs a REX.
+#[inline(always)]
 fn names_new_byte(inst: &Instruction) -> bool
     ensures { result ≡ names_new_byte inst.now }
 {
     is_new_byte(&inst.operand(0)) || is_new_byte(&inst.operand(1))
 }
 
+#[inline(always)]
 fn has_some_bit(rex: PrefixRex) -> bool
     ensures { result ≡ has_some_bit rex }
 {
     (rex.w() || rex.r()) || (rex.x() || rex.b())
 }
 
+#[inline(always)]
 fn rex_is_read(context: &Context, inst: &Instruction, letter: u8, rex: PrefixRex) -> bool
     ensures { result ≡ rex_is_read context.now inst.now letter rex }
 {
@@ -98,6 +109,7 @@ fn rex_is_read(context: &Context, inst: &Instruction, letter: u8, rex: PrefixRex
 }
 
 /// Whether the instruction reads each bit of its REX, and needs it.
+#[inline(always)]
 pub fn live_rex_is_read(context: &Context, inst: &Instruction, letter: u8) -> bool
     ensures { result ≡ live_rex_is_read context.now inst.now letter context.now.prefixes.rex }
 {

@@ -1,6 +1,8 @@
 //! The sizes of registers and of memory, where the row has others than the processor.
 
-ghost use Rattle.std.specs.Prelude.{◌≡◌, ◌+◌, ◌≤◌, ◌++◌, length, take};
+ghost use Rattle.std.specs.Prelude.{◌≡◌, ◌==◌, ◌+◌, ◌≤◌, ◌++◌, IsTrue, if◌then◌else◌, length, take};
+ghost use Rattle.x86_operands.specs.declared.operands.Slot.{Slot};
+ghost use Rattle.x86_text.specs.Operands.{register_text};
 ghost use Rattle.x86_show.specs.Text.Sizes.{stack_class, class_by_67, class_by_letter, register_with, slot_letter, register_in, size_by_letter, memory_size, size_words};
 
 use crate::text::choices::is_special;
@@ -72,11 +74,46 @@ fn slot_letter(entry: &Entry, slot: Slot) -> u8
     }
 }
 
-#[inline(never)]
-fn sized_register(context: &Context, letter: u8, reg: &RegSpec) -> RegSpec
-    ensures { result ≡ register_with reg.now (class_by_letter context.now letter) }
+/// Whether the registers of both fields are as the row has them.
+#[inline(always)]
+#[tactic(auto, using(crate::proofs::Letters::every_slot))]
+fn is_as_row(entry: &Entry) -> bool
+    ensures { IsTrue result → (slot : Slot) → slot_letter entry.now slot ≡ 45 }
 {
-    register_with(reg, class_by_letter(context, letter))
+    entry.reg_letter() == b'-' && entry.rm_letter() == b'-'
+}
+
+/// Writes a register with the size of a letter.
+#[inline(never)]
+fn put_lettered(cells: &mut [u8], at: usize, context: &Context, letter: u8, reg: &RegSpec) -> usize
+    requires { at + 8 ≤ length cells.old }
+    ensures text { take result cells.new ≡ take at cells.old
+        ++ (if letter == 45 then register_text reg.now
+        else register_text (register_with reg.now (class_by_letter context.now letter))) }
+    ensures short { result ≤ at + 6 }
+{
+    if letter == b'-' {
+        put_register(cells, at, reg)
+    } else {
+        put_register(
+            cells,
+            at,
+            &register_with(reg, class_by_letter(context, letter)),
+        )
+    }
+}
+
+/// Calls `put_lettered` with a copy of the context, so that the caller's needs no memory.
+#[inline(always)]
+fn put_apart(cells: &mut [u8], at: usize, context: &Context, letter: u8, reg: &RegSpec) -> usize
+    requires { at + 8 ≤ length cells.old }
+    ensures text { take result cells.new ≡ take at cells.old
+        ++ (if letter == 45 then register_text reg.now
+        else register_text (register_with reg.now (class_by_letter context.now letter))) }
+    ensures short { result ≤ at + 6 }
+{
+    let context = *context;
+    put_lettered(cells, at, &context, letter, reg)
 }
 
 /// Writes a register in a slot.
@@ -94,12 +131,10 @@ pub fn put_register_in(
         take at cells.old ++ register_in context.now entry.now slot reg.now }
     ensures short { result ≤ at + 6 }
 {
-    let letter = slot_letter(entry, slot);
-    if letter == b'-' {
-        put_register(cells, at, reg)
-    } else {
-        put_register(cells, at, &sized_register(context, letter, reg))
+    if is_as_row(entry) {
+        return put_register(cells, at, reg);
     }
+    put_apart(cells, at, context, slot_letter(entry, slot), reg)
 }
 
 #[inline(never)]
@@ -121,6 +156,15 @@ fn size_by_letter(context: &Context, letter: u8) -> u8
     }
 }
 
+/// The size of a letter, by a copy of the context.
+#[inline(always)]
+fn size_apart(context: &Context, letter: u8) -> u8
+    ensures { result ≡ size_by_letter context.now letter }
+{
+    let context = *context;
+    size_by_letter(&context, letter)
+}
+
 /// The size of memory.
 #[inline(always)]
 pub fn memory_size(context: &Context, inst: &Instruction, entry: &Entry) -> u8
@@ -129,7 +173,7 @@ pub fn memory_size(context: &Context, inst: &Instruction, entry: &Entry) -> u8
     if entry.memory_letter() == b'-' {
         size_number(inst)
     } else {
-        size_by_letter(context, entry.memory_letter())
+        size_apart(context, entry.memory_letter())
     }
 }
 

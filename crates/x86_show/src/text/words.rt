@@ -1,6 +1,6 @@
 //! The words of prefixes.
 
-ghost use Rattle.std.specs.Prelude.{◌≡◌, ◌+◌, ◌*◌, ◌<◌, ◌≤◌, ◌++◌, ◌∷◌, [], get_or, length, take};
+ghost use Rattle.std.specs.Prelude.{◌≡◌, ◌+◌, ◌*◌, ◌<◌, ◌≤◌, ◌++◌, ◌∷◌, [], IsTrue, get_or, length, take};
 ghost use Rattle.x86_opcodes.specs.Kinds.{is_among};
 ghost use Rattle.x86_opcodes.specs.Names.{INS, OUTS, MOVS, LODS, STOS};
 ghost use Rattle.x86_fields.specs.Run.{holds};
@@ -255,7 +255,6 @@ fn put_word(
 }
 
 /// Writes the words of a run, in the order of its bytes.
-#[inline(never)]
 fn put_words(
     cells: &mut [u8],
     at: usize,
@@ -280,6 +279,64 @@ fn put_words(
 }
 
 /// Writes the words of the prefixes that an encoding doesn't read.
+#[inline(never)]
+fn put_run(
+    cells: &mut [u8],
+    at: usize,
+    context: &Context,
+    inst: &Instruction,
+    entry: &Entry,
+    run: &[u8],
+) -> usize
+    requires { at + 9 * length run.now ≤ length cells.old }
+    ensures text { take result cells.new ≡ take at cells.old
+        ++ words_text context.now inst.now entry.now (size_read context.now entry.now) run.now }
+    ensures short { result ≤ at + 9 * length run.now }
+{
+    put_words(
+        cells,
+        at,
+        context,
+        inst,
+        entry,
+        size_read(context, entry),
+        run,
+    )
+}
+
+/// Calls `put_run` with a copy of the context, so that the caller's needs no memory.
+#[inline(always)]
+fn put_apart(
+    cells: &mut [u8],
+    at: usize,
+    context: &Context,
+    inst: &Instruction,
+    entry: &Entry,
+    run: &[u8],
+) -> usize
+    requires { at + 9 * length run.now ≤ length cells.old }
+    ensures text { take result cells.new ≡ take at cells.old
+        ++ words_text context.now inst.now entry.now (size_read context.now entry.now) run.now }
+    ensures short { result ≤ at + 9 * length run.now }
+{
+    let context = *context;
+    put_run(cells, at, &context, inst, entry, run)
+}
+
+/// Whether a run is a REX that the instruction reads.
+#[inline(always)]
+#[tactic(auto, unfolding(crate::specs::Text::Words::word_text))]
+fn is_read_rex(context: &Context, inst: &Instruction, entry: &Entry, run: &[u8]) -> bool
+    ensures { IsTrue result →
+        words_text context.now inst.now entry.now (size_read context.now entry.now) run.now ≡ [] }
+{
+    match run {
+        [byte] => is_rex(*byte) && live_rex_is_read(context, inst, size_read(context, entry)),
+        _ => false,
+    }
+}
+
+/// Writes the words of the prefixes that an encoding doesn't read. Most have none.
 #[inline(always)]
 pub fn put_prefixes(
     cells: &mut [u8],
@@ -294,16 +351,9 @@ pub fn put_prefixes(
         ++ words_text context.now inst.now entry.now (size_read context.now entry.now) run.now }
     ensures short { result ≤ at + 9 * length run.now }
 {
-    match run {
-        [] => at,
-        _ => put_words(
-            cells,
-            at,
-            context,
-            inst,
-            entry,
-            size_read(context, entry),
-            run,
-        ),
+    if run.is_empty() || is_read_rex(context, inst, entry, run) {
+        at
+    } else {
+        put_apart(cells, at, context, inst, entry, run)
     }
 }

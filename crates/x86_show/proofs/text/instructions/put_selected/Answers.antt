@@ -2,7 +2,7 @@ use Rattle.std.proofs.Common.{◌++◌, take, ap, ◌∙◌}
 use Rattle.x86_fields.specs.Parts.{lists_of}
 use Rattle.x86_show.specs.Text.Entries.{entry_for}
 use Rattle.x86_show.specs.Text.Instructions.{shown_by, listed_text}
-use Rattle.x86_show.proofs.text.instructions.put_instruction.Goals as goal
+use Rattle.x86_show.proofs.text.instructions.put_selected.Goals as goal
 
 pub returns-clause-text : goal.returns-clause-text
 unfolding listed_text
