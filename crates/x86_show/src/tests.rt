@@ -5,7 +5,7 @@ use crate::program::base_in;
 #[test]
 fn bases(rt: HostRuntime) {
     assert!(&rt; base_in(&[]) == Some(0));
-    for (word, base) in [
+    for (text, base) in [
         ("0x401000", Some(0x401000)),
         ("0X1f", Some(31)),
         ("ffffffffffffFFFF", Some(u64::MAX)),
@@ -14,7 +14,7 @@ fn bases(rt: HostRuntime) {
         ("4g", None),
         ("+1", None),
     ] {
-        let word = String::from_str(rt.alloc(), word).expect(&rt, "memory");
-        assert!(&rt; base_in(&[word]) == base);
+        let word = String::from_str(rt.alloc(), text).expect(&rt, "memory");
+        assert!(&rt; base_in(&[word]) == base, "{text}");
     }
 }
