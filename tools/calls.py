@@ -140,11 +140,11 @@ def calls_of(crate):
     lines, laws = [], []
     for shown, (text, sentence) in functions.values():
         line = ("::".join([*shown, text]), sentence)
-        (laws if shown[:1] == ["laws"] else lines).append(line)
+        (laws if "laws" in shown else lines).append(line)
     of_types = []
     for path in sorted((CRATES / crate / "src").rglob("*.rt")):
         for owner, calls in File(path).calls.items():
-            if owner in types and types[owner][:1] != ["laws"]:
+            if owner in types and "laws" not in types[owner]:
                 of_types += [("::".join([*types[owner], owner, text]), sentence) for text, sentence in calls]
     return [*sorted(lines), *sorted(of_types), *sorted(laws)]
 

@@ -11,7 +11,7 @@ use Rattle.hex.specs.Hex.{lower_digits, encode_with}
 use Rattle.x86_decode.specs.declared.instructions.Instruction.{Instruction}
 use Rattle.x86_fields.specs.declared.errors.DecodeError.{DecodeError}
 use Rattle.x86_decode.specs.Answer.{answer_of}
-use Rattle.x86_lines.specs.Hexadecimal.{hexadecimal, spaced_byte, spaced_bytes}
+use Rattle.x86_streams.specs.Lines.Hexadecimal.{hexadecimal, spaced_byte, spaced_bytes}
 use Rattle.x86_streams.specs.declared.text.reader.Ending.{Ending}
 use Rattle.x86_streams.specs.Outside.Chain.{Call, Read, Write, Flush, received}
 use Rattle.x86_streams.specs.Outside.Stop.{Stop, End, Failed}

@@ -3,7 +3,7 @@ use Rattle.std.specs.Prelude.{ℕ, ◌+◌, ◌-◌, ◌*◌, ◌%◌, ◌^◌, 
 use Rattle.x86_fields.specs.Parts.{PartLists}
 use Rattle.x86_decode.specs.declared.instructions.Instruction.{Instruction}
 use Rattle.x86_decode.specs.Instruction.{length_of}
-use Rattle.x86_lines.specs.Hexadecimal.{hexadecimal, spaced_bytes}
+use Rattle.x86_streams.specs.Lines.Hexadecimal.{hexadecimal, spaced_bytes}
 use Rattle.x86_show.specs.Text.Instructions.{listed_text}
 
 -- a line without its end and its room, as the code names it

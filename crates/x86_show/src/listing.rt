@@ -18,9 +18,9 @@ use x86_cli::{Finished, Program};
 use x86_decode::laws::lengths;
 use x86_decode::{InstDecoder, Instruction};
 use x86_layout::split_decoded;
-use x86_lines::cells::{put, put_bytes, put_first};
-use x86_lines::hexadecimal::{put_hexadecimal, put_spaced_bytes};
-use x86_lines::{Place, Room};
+use x86_streams::lines::cells::{put, put_bytes, put_first};
+use x86_streams::lines::hexadecimal::{put_hexadecimal, put_spaced_bytes};
+use x86_streams::lines::{Place, Room};
 use x86_streams::{Input, Output, Window};
 
 /// How many bytes a line has room for, its end included.

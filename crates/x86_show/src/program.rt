@@ -12,7 +12,7 @@ use crate::listing::ShowAt;
 use std::process::ExitCode;
 use x86_cli::commands::process::report;
 use x86_cli::{Finished, Program, Status};
-use x86_lines::cells::put_bytes;
+use x86_streams::lines::cells::put_bytes;
 use x86_streams::{Input, Output};
 
 /// What is printed where the words are no address.

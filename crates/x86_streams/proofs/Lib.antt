@@ -1,3 +1,4 @@
--- The lemmas on sources and sinks, and on hex text.
+-- The lemmas on sources and sinks, on hex text, and on lines.
+pub mod LineLemmas
 pub mod OutsideLemmas
 pub mod TextLemmas

@@ -1,4 +1,5 @@
-//! Where bytes come from and where they go, and hex text that is read from there. No decoder is needed.
+//! Where bytes come from and where they go, hex text that is read from there, and lines of text (`lines`). No decoder is
+//! needed.
 //!
 //! A `Source` returns its bytes one by one, and a `Sink` takes them piece by piece. Each is there over slices and
 //! arrays, with faults that the caller chooses, and over any reader or writer of std. A program reads by `Input` and
@@ -16,6 +17,7 @@
 #![tactic(auto)]
 
 pub mod laws;
+pub mod lines;
 pub mod outside;
 pub mod text;
 

@@ -11,10 +11,10 @@ ghost use Rattle.x86_text.specs.Lines.{size_text, instruction_text, line_of};
 use crate::names::{mnemonic, put_name, size_name};
 use crate::operands::put_operand;
 use x86_decode::Instruction;
-use x86_lines::cells::put;
-use x86_lines::digits::{put_one, put_u8, put_u64};
-use x86_lines::{Line, Place};
 use x86_operands::Operand;
+use x86_streams::lines::cells::put;
+use x86_streams::lines::digits::{put_one, put_u8, put_u64};
+use x86_streams::lines::{Line, Place};
 
 /// Writes an operand after a comma and a space.
 #[inline(always)]

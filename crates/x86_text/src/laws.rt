@@ -3,7 +3,7 @@
 ghost use Rattle.std.specs.Prelude.{◌≡◌};
 ghost use Rattle.x86_text.specs.Widths.{line_room, line_width};
 
-use x86_lines::{LINE_MAX, LINE_ROOM};
+use x86_streams::lines::{LINE_MAX, LINE_ROOM};
 
 /// A line has room for 192 bytes: the longest text, of 191, and its end.
 pub fn lines_have_room()

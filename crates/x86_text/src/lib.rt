@@ -9,7 +9,7 @@
 //!
 //! Each text is a `Line`, which takes no memory. The calls that begin with `push` append to a line that is there, for
 //! a caller's additional columns; those that begin with `write` write over it. Those that begin with `put` write a part
-//! of a text at a place in cells, as the calls of x86_lines do, for lines of a caller's own.
+//! of a text at a place in cells, as the calls of x86_streams do, for lines of a caller's own.
 #![tactic(auto)]
 
 mod instructions;
@@ -29,4 +29,4 @@ pub use names::{put_mnemonic, put_register};
 pub use operands::{operand_text, push_operand, put_scaled};
 pub use parts::{fields_line, write_fields};
 pub use refusals::{refusal_of, write_refusal};
-pub use x86_lines::{LINE_MAX, LINE_ROOM, Line, Place, Room};
+pub use x86_streams::lines::{LINE_MAX, LINE_ROOM, Line, Place, Room};

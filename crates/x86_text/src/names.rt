@@ -10,10 +10,10 @@ ghost use Rattle.x86_text.specs.Lines.{size_text};
 use crate::mnemonics::MNEMONICS;
 use crate::registers;
 use crate::sizes::SIZES;
-use x86_lines::cells::put_first;
 use x86_opcodes::Opcode;
 use x86_opcodes::laws::names_are_in_the_order_of_their_numbers;
 use x86_regs::{RegSpec, RegisterClass};
+use x86_streams::lines::cells::put_first;
 
 /// A text of at most `M` bytes: a block that begins with it, and its length.
 pub(crate) struct Name<const M: usize> {

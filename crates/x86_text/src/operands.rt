@@ -7,11 +7,11 @@ ghost use Rattle.x86_text.specs.Widths.{line_room, operand_text_width};
 ghost use Rattle.x86_text.specs.Operands.{operand_text, deref_text, moved_text, index_text, moved_index_text, scaled_text, displacement_text, register_text, base_text, plus_text};
 
 use crate::names::put_register;
-use x86_lines::Line;
-use x86_lines::cells::{put, put_bytes, put_first};
-use x86_lines::digits::{put_signed, put_u8, put_u32, put_u64};
 use x86_operands::Operand;
 use x86_regs::RegSpec;
+use x86_streams::lines::Line;
+use x86_streams::lines::cells::{put, put_bytes, put_first};
+use x86_streams::lines::digits::{put_signed, put_u8, put_u32, put_u64};
 
 /// Writes an immediate after the first bytes of a block, which name its type.
 fn put_immediate(cells: &mut [u8], at: usize, label: &[u8; 4], count: usize, n: i64) -> usize

@@ -8,9 +8,9 @@ ghost use Rattle.x86_text.specs.Widths.{line_width};
 ghost use Rattle.x86_text.specs.Parts.{in_order, spaced, fields_line};
 
 use x86_fields::Parts;
-use x86_lines::cells::put;
-use x86_lines::digits::{put_hex, put_u64};
-use x86_lines::{Line, Place};
+use x86_streams::lines::cells::put;
+use x86_streams::lines::digits::{put_hex, put_u64};
+use x86_streams::lines::{Line, Place};
 
 /// How many bytes the parts have together.
 fn parts_length(parts: &Parts) -> usize

@@ -6,7 +6,7 @@ ghost use Rattle.x86_text.specs.Widths.{line_width};
 ghost use Rattle.x86_text.specs.Lines.{refusal_of};
 
 use x86_fields::DecodeError;
-use x86_lines::{Line, Place};
+use x86_streams::lines::{Line, Place};
 
 /// Writes the line of a refusal at a place over another, without its end, as `2 error: invalid opcode`.
 #[tactic(auto, unfolding(crate::specs::Lines::refusal_of))]

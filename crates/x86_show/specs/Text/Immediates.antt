@@ -3,7 +3,7 @@ use Rattle.std.specs.Prelude.{ℕ, ◌%◌, ◌^◌, ◌==◌, ◌&&◌, ◌||�
 use Rattle.std.specs.Int.{w64, cast_unsigned}
 use Rattle.x86_opcodes.specs.Kinds.{is_among}
 use Rattle.x86_fields.specs.Raw.{has_w}
-use Rattle.x86_lines.specs.Hexadecimal.{prefixed}
+use Rattle.x86_streams.specs.Lines.Hexadecimal.{prefixed}
 use Rattle.x86_show.specs.declared.text.context.Context.{Context}
 use Rattle.x86_show.specs.Text.Context.{is_map_one, is_one, has_two_bytes}
 use Rattle.x86_show.specs.Text.Numbers.{plain_number, signed_of}

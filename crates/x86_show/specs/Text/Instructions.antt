@@ -4,7 +4,7 @@ use Rattle.std.specs.Int.{w64, cast_unsigned}
 use Rattle.x86_fields.specs.Parts.{PartLists}
 use Rattle.x86_decode.specs.declared.instructions.Instruction.{Instruction}
 use Rattle.x86_decode.specs.Instruction.{opcode}
-use Rattle.x86_lines.specs.Hexadecimal.{prefixed}
+use Rattle.x86_streams.specs.Lines.Hexadecimal.{prefixed}
 use Rattle.x86_show.specs.declared.text.context.Context.{Context}
 use Rattle.x86_show.specs.declared.text.names.Entry.{Entry}
 use Rattle.x86_show.specs.Text.Context.{context_of}

@@ -9,7 +9,7 @@ use Rattle.x86_fields.specs.Address.{extend}
 use Rattle.x86_fields.specs.ModRM.{mod_field, rm_field, scale_field, index_field, base_field}
 use Rattle.x86_fields.specs.Parts.{PartLists}
 use Rattle.x86_fields.specs.Raw.{has_b, has_x}
-use Rattle.x86_lines.specs.Hexadecimal.{prefixed}
+use Rattle.x86_streams.specs.Lines.Hexadecimal.{prefixed}
 use Rattle.x86_text.specs.Operands.{register_text}
 use Rattle.x86_show.specs.declared.text.context.Context.{Context}
 use Rattle.x86_show.specs.Text.Numbers.{signed_of}

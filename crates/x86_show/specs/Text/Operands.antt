@@ -19,7 +19,7 @@ use Rattle.x86_operands.specs.declared.operands.Operand.TheVariants as operand
 use Rattle.x86_operands.specs.Operands.{is_memory_slot}
 use Rattle.x86_decode.specs.declared.instructions.Instruction.{Instruction}
 use Rattle.x86_decode.specs.Instruction.{opcode, operand_at, operand_count, operands_of, slot_at}
-use Rattle.x86_lines.specs.Hexadecimal.{prefixed}
+use Rattle.x86_streams.specs.Lines.Hexadecimal.{prefixed}
 use Rattle.x86_text.specs.Operands.{register_text}
 use Rattle.x86_show.specs.declared.text.context.Context.{Context}
 use Rattle.x86_show.specs.declared.text.names.Entry.{Entry}

@@ -6,8 +6,8 @@ ghost use Rattle.x86_show.specs.Text.Immediates.{extended, extended_to_v, byte_n
 use crate::text::context::Context;
 use crate::text::numbers::{plain_number, signed_of};
 use x86_forms::Map;
-use x86_lines::cells::put;
-use x86_lines::hexadecimal::put_prefixed;
+use x86_streams::lines::cells::put;
+use x86_streams::lines::hexadecimal::put_prefixed;
 
 /// The number of bytes, sign-extended to 64 bits.
 fn extended(bytes: &[u8]) -> u64

@@ -16,8 +16,8 @@ use crate::text::rex::names_memory;
 use crate::text::words::put_prefixes;
 use x86_decode::Instruction;
 use x86_fields::Parts;
-use x86_lines::cells::put_first;
-use x86_lines::hexadecimal::put_prefixed;
+use x86_streams::lines::cells::put_first;
+use x86_streams::lines::hexadecimal::put_prefixed;
 
 /// Writes the address of memory that is relative to the next instruction, where an operand is such memory.
 #[inline(always)]

@@ -8,9 +8,9 @@ ghost use Rattle.x86_show.specs.Text.Memory.{segment_text, addressing_register, 
 use crate::text::context::Context;
 use crate::text::numbers::signed_of;
 use x86_fields::{Parts, Sib, extend};
-use x86_lines::cells::{put, put_first};
-use x86_lines::hexadecimal::put_prefixed;
 use x86_regs::{RegSpec, RegisterClass, Segment};
+use x86_streams::lines::cells::{put, put_first};
+use x86_streams::lines::hexadecimal::put_prefixed;
 use x86_text::put_register;
 
 /// Writes the segment that 64 or 65 chose, or the first bytes of another block where none did.

@@ -7,9 +7,9 @@ ghost use Rattle.x86_show.specs.Text.Names.{name_in_one, name_of_01, name_of_18,
 use crate::text::context::Context;
 use crate::text::entries::ENTRIES;
 use x86_forms::Map;
-use x86_lines::cells::{put, put_bytes, put_first};
 use x86_opcodes::Opcode;
 use x86_opcodes::laws::names_are_in_the_order_of_their_numbers;
+use x86_streams::lines::cells::{put, put_bytes, put_first};
 
 /// How an operation is written: its name as a block and a length, and six letters.
 pub struct Entry {

@@ -17,9 +17,9 @@ use crate::text::sizes::{memory_size, put_register_in, put_size};
 use x86_decode::Instruction;
 use x86_fields::Parts;
 use x86_forms::Map;
-use x86_lines::cells::put;
-use x86_lines::hexadecimal::put_prefixed;
 use x86_operands::{Operand, Slot};
+use x86_streams::lines::cells::put;
+use x86_streams::lines::hexadecimal::put_prefixed;
 
 /// An instruction with what the rules read of it.
 #[derive(Clone, Copy)]

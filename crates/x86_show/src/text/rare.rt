@@ -12,11 +12,11 @@ use crate::text::operands::{Shown, put_first_operands, put_operand_at};
 use crate::text::sizes::put_size;
 use x86_decode::Instruction;
 use x86_fields::extend;
-use x86_lines::cells::{put, put_bytes};
-use x86_lines::hexadecimal::put_prefixed;
 use x86_opcodes::Opcode;
 use x86_operands::Operand;
 use x86_regs::{RegSpec, RegisterClass};
+use x86_streams::lines::cells::{put, put_bytes};
+use x86_streams::lines::hexadecimal::put_prefixed;
 use x86_text::put_register;
 
 /// The bytes that a string operation moves at a time.

@@ -8,9 +8,9 @@ use crate::text::context::Context;
 use crate::text::names::Entry;
 use x86_decode::Instruction;
 use x86_forms::Map;
-use x86_lines::cells::put_first;
 use x86_operands::Slot;
 use x86_regs::{RegSpec, RegisterClass};
+use x86_streams::lines::cells::put_first;
 use x86_text::{put_register, size_number};
 
 #[inline(always)]

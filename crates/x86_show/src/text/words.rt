@@ -13,9 +13,9 @@ use crate::text::rex::{live_rex_is_read, names_memory};
 use x86_decode::Instruction;
 use x86_fields::is_rex;
 use x86_forms::Map;
-use x86_lines::cells::put_bytes;
 use x86_opcodes::Opcode;
 use x86_regs::Segment;
+use x86_streams::lines::cells::put_bytes;
 
 /// Whether 67 has an effect.
 fn reads_67(context: &Context, inst: &Instruction) -> bool

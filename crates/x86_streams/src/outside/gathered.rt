@@ -3,9 +3,9 @@
 ghost use Rattle.std.specs.Prelude.{◌≡◌, ◌≤◌, [], false, length, OnOk};
 ghost use Rattle.x86_streams.specs.Outside.Chain.{Puts, Sends, SendsAll};
 
+use crate::lines::Room;
 use crate::outside::output::Output;
 use crate::outside::sending::{WriteFailed, flush_out, put_whole, send_out};
-use x86_lines::Room;
 
 const SIZE: usize = 65536;
 

@@ -1,2 +1,0 @@
--- The definitions that the contracts cite: numbers in hexadecimal.
-pub mod Hexadecimal

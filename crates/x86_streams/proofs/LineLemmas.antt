@@ -1,0 +1,3 @@
+-- Places, and digits in hexadecimal.
+pub mod Place
+pub mod Hexadecimal

@@ -1,0 +1,25 @@
+use Rattle.std.proofs.Common.{◌≡◌, ◌+◌, ◌-◌, ◌<◌, ◌^◌, ◌%◌, ◌++◌, arith, length, take, decimal, ap, ◌∙◌}
+use Rattle.itoa.proofs.Decimal.{pair}
+use Rattle.x86_streams.proofs.LineLemmas.Place.{two_digits, counts_on, last_two}
+use Rattle.x86_streams.proofs.lines.place.Place.advance.Goals as goal
+
+pub set_last_digits-requires : goal.set_last_digits-requires
+set_last_digits-requires c =
+    let n = c.self.inside.number in
+    let fits : n + c.args.by < 2 ^ 64 = omega (arith, c.requires, c.self.view_is) in
+    let h = c.self.invariant.1 (omega arith) in
+    let long = two_digits n c.args.by h.0 (omega (arith, h.1)) fits in
+    (omega arith, (omega (arith, h.1), omega (arith, long, ap length c.self.invariant.0)))
+
+pub invariant_of-self : goal.invariant_of-self
+invariant_of-self c =
+    let n = c.self.inside.number in
+    let by = c.args.by in
+    let fits : n + by < 2 ^ 64 = omega (arith, c.requires, c.self.view_is) in
+    let h = c.self.invariant.1 (omega arith) in
+    let no_carry : by < 100 - n % 100 = omega (arith, h.1) in
+    let low = last_two n by h.0 no_carry fits in
+    let number : 100 - (c.self.inside.spare - by) ≡ (n + by) % 100 = omega (arith, low, h.1) in
+    let kept = ap (λ xs. take (length xs - 2) xs ++ pair (100 - (c.self.inside.spare - by))) c.self.invariant.0 in
+    let written = ap (λ k. take (length (decimal n) - 2) (decimal n) ++ pair k) number in
+    (c.set_last_digits.ensures ∙ kept ∙ written ∙ counts_on n by h.0 no_carry fits, λ more. (omega (arith, h.0), omega (arith, low, h.1)))

@@ -1,0 +1,18 @@
+use Rattle.std.proofs.Common.{◌≡◌, ◌+◌, ◌-◌, length, take, drop, sym, ap, ◌∙◌, arith, length-drop, length-take-le}
+use lib.Seq.{paste}
+use Rattle.std.proofs.lemmas.List.{drop-take}
+use Rattle.std.proofs.lemmas.List.Edits.{take-paste}
+use Rattle.x86_streams.proofs.lines.room.Room.leave.Goals as goal
+
+pub returns : goal.returns
+returns g c =
+    let all = c.self.inside.cells in
+    let len = c.self.inside.len in
+    let from = c.args.count in
+    let view = ap (λ r. r.items) c.self.view_is in
+    let size : length c.args.self.now.items ≡ len = ap length (sym view) ∙ length-take-le len all (omega (arith, c.self.invariant, c.self.told)) in
+    let same : len - from ≡ 0 + (len - from) = omega arith in
+    let whole : from + (len - from) ≡ len = omega (arith, c.requires, size) in
+    ap (take (len - from)) c.copy_within.ensures.after ∙ ap (λ k. take k (paste all 0 (drop from all) (len - from))) same
+    ∙ take-paste all 0 (drop from all) (len - from) (omega arith) (omega (arith, c.self.invariant, c.self.told, length-drop from all))
+    ∙ sym (drop-take from (len - from) all) ∙ ap (λ k. drop from (take k all)) whole ∙ ap (drop from) view

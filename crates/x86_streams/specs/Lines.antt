@@ -1,0 +1,2 @@
+-- Numbers and bytes as text.
+pub mod Hexadecimal

@@ -1,0 +1,23 @@
+//! Lines of text in room of a fixed size, and the digits of numbers.
+//!
+//! ```
+//! let mut line = Line::new();
+//! line.extend(b"place ");
+//! line.push_u64(4096);
+//! line.push(b' ');
+//! line.push_hex(&[0x48, 0x01]);
+//! line.as_slice() // b"place 4096 4801"
+//! ```
+//!
+//! A `Room` takes no memory, and its calls require room where they append. A `Place` counts on, and keeps its decimal.
+//! The modules `cells`, `digits` and `hexadecimal` write a text by its pieces, without a length that is kept at each one.
+
+pub mod cells;
+pub mod digits;
+pub mod hexadecimal;
+pub mod laws;
+mod place;
+mod room;
+
+pub use place::Place;
+pub use room::{LINE_MAX, LINE_ROOM, Line, Room};
