@@ -1,13 +1,14 @@
 //! The parts of an encoding.
 
-ghost use Rattle.std.specs.Prelude.{◌≡◌, ◌≤◌, ◌++◌, true, Bool, List, ℕ, MatchResult, IfOk, Ok, Err, length};
+ghost use Rattle.std.specs.Prelude.{◌≡◌, ◌≤◌, ◌++◌, true, Bool, List, Option, ℕ, MatchResult, IfOk, Ok, Err, length};
 ghost use Rattle.x86_fields.specs.declared.prefixes.Prefixes.{Prefixes};
 ghost use Rattle.x86_fields.specs.Parts.{lists_of, HasFieldLengths};
 ghost use Rattle.x86_forms.specs.declared.Map.{Map};
 ghost use Rattle.x86_forms.specs.Words.{rows_of, packed};
 ghost use Rattle.x86_operands.specs.Asks.{modrm_of};
-ghost use Rattle.x86_operands.specs.Plans.{RowRecord};
-ghost use Rattle.x86_operands.specs.Pieces.{SpellsRow};
+ghost use Rattle.x86_fields.specs.declared.raw.Raw.{Raw};
+ghost use Rattle.x86_operands.specs.Pieces.{SpellsMemory, modrm_width};
+ghost use Rattle.x86_operands.specs.declared.plans.ModrmUse.{ModrmUse};
 ghost use Rattle.x86_operands.specs.declared.reader.Reading.{Reading};
 ghost use Rattle.x86_decode.specs.Decoder.{is_strict};
 ghost use Rattle.x86_decode.specs.Answer.{answer_of};
@@ -37,12 +38,12 @@ fn escape_at_end(before: &[u8]) -> usize
 /// ModRM, SIB and displacement, of which the first is there where any is.
 #[inline(always)]
 fn split_address(fields: &[u8]) -> (&[u8], &[u8], &[u8])
-    ensures { (r : RowRecord) (p : Prefixes) (tail : List ℕ) (reading : Reading)
-        (a : SpellsRow r p tail reading) →
-        fields.now ≡ a.modrm ++ a.tail_spelled.pieces.address →
-        (result.0.now ≡ a.modrm)
-        × (length result.1.now ≡ sib_width (modrm_of r.modrm a.modrm))
-        × (result.1.now ++ result.2.now ≡ a.tail_spelled.pieces.address) }
+    ensures { (usage : ModrmUse) (p : Prefixes) (modrm address : List ℕ) (memory : Option Raw) →
+        length modrm ≡ modrm_width usage → SpellsMemory p (modrm_of usage modrm) address memory →
+        fields.now ≡ modrm ++ address →
+        (result.0.now ≡ modrm)
+        × (length result.1.now ≡ sib_width (modrm_of usage modrm))
+        × (result.1.now ++ result.2.now ≡ address) }
 {
     let (modrm, address) = fields.split_at(usize::from(!fields.is_empty()));
     let has_sib = !address.is_empty() && ModRM::new(byte_at(modrm, 0)).rm_field() == 4;

@@ -11,7 +11,9 @@ returns c = λ strict reading w are.
     let escape = escape_cut w are before (c.escape_at_end.ensures.escape w.run w.map w.prefixes before) in
     let fields = fields_cut w are n_is (c.split_at.ensures.back ∙ head.1) c.from.ensures in
     let suffix = suffix_cut w are (c.split_at-4.ensures.back ∙ fields.1) c.from-2.ensures in
-    let address = c.split_address.ensures _ _ _ _ w.row_spelled (c.split_at-4.ensures.front ∙ fields.0) in
+    let tail = w.row_spelled.tail_spelled in
+    let spelled = tail.pieces.address_spelled in
+    let address = c.split_address.ensures _ _ _ _ _ w.row_spelled.modrm_length spelled (c.split_at-4.ensures.front ∙ fields.0) in
     record {
       prefixes = c.split_at-3.ensures.front ∙ escape.0;
       escape = c.split_at-3.ensures.back ∙ escape.1;
