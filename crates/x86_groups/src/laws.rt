@@ -14,7 +14,7 @@ ghost use Rattle.x86_operands.specs.declared.plans.Moment.{Moment};
 ghost use Rattle.x86_operands.specs.declared.plans.Moment.TheVariants.{AfterAddress};
 ghost use Rattle.x86_operands.specs.declared.plans.Verdict.TheVariants.{Refuses};
 ghost use Rattle.x86_operands.specs.declared.plans.OperandEncoding.TheVariants.{ConstantU8};
-ghost use Rattle.x86_operands.specs.Plans.{list_of};
+ghost use Rattle.x86_operands.specs.Plans.{plan_encodings};
 ghost use Rattle.x86_operands.specs.PlanSteps.{immediate_read, known_operand, record_step};
 ghost use Rattle.x86_groups.specs.Groups.{IsFenceWithRm, group_record, group_plan, operandless, bad_operand, record_of};
 
@@ -75,5 +75,5 @@ pub fn operands_are_known()
     ensures { (strict : Bool) (row : TableRow) (p q : Prefixes) (m n : ℕ) (memory : Option Raw) →
         All (λ s. immediate_read s ≡ None → known_operand s q m memory
         ≡ (Slot.ImmU8, Operand.ImmediateU8 0) → s ≡ ConstantU8 0)
-        (list_of ((record_of strict row p).plan n).encodings) }
+        (plan_encodings ((record_of strict row p).plan n)) }
 {}
