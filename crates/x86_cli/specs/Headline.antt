@@ -100,7 +100,7 @@ module _ (rows : Rows) (strict : Bool) where
       pub permitted : (f : Fields) → does.permits f ↔
           ((s : List ℕ) × (i : Instruction) × (is : Sentence s i) × (is.parts ≡ lists_in f))
       -- An address that isn't relative to the next instruction has a spelling of this length, and none that is shorter. All
-      -- spellings of an address are one instruction, but for X and B of a REX and memory.
+      -- relatives of an encoding are one instruction, but for X and B of a REX and memory.
       pub shortest : (s : List ℕ) (i : Instruction) (is : Sentence s i) (k : ℕ) (raw : Raw) → HasRaw is k raw →
           is_ip_relative raw ≡ false → IsByteString s → (t : List ℕ) × (j : Instruction) × (other : Sentence t j)
           × AreRelatives is other × IsByteString t × (length t ≡ does.least s)
