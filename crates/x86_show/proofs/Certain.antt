@@ -44,10 +44,10 @@ blank_first : (k d : ℕ) (u v : List ℕ) → d ≢ 32 → d ≢ 9 → replicat
 blank_first zero d u v space tabulator e = tabulator (cc)
 blank_first (suc k) d u v space tabulator e = space (cc)
 
-fewer_is : (f s r t u n : List ℕ) → ((((f ++ s) ++ r) ++ t) ++ u) ++ n ≡ (f ++ s) ++ (r ++ (t ++ (u ++ n)))
+fewer_is : (f s r t u n : List ℕ) → (((f ++ (s ++ r)) ++ t) ++ u) ++ n ≡ (f ++ s) ++ (r ++ (t ++ (u ++ n)))
 fewer_is f s r t u n = simp append_assoc
 
-more_is : (f s p m r t v n : List ℕ) → ((((f ++ (s ++ (p ++ m))) ++ r) ++ t) ++ v) ++ n ≡ (f ++ s) ++ (p ++ ((((m ++ r) ++ t) ++ v) ++ n))
+more_is : (f s p m r t v n : List ℕ) → (((f ++ ((s ++ (p ++ m)) ++ r)) ++ t) ++ v) ++ n ≡ (f ++ s) ++ (p ++ ((((m ++ r) ++ t) ++ v) ++ n))
 more_is f s p m r t v n = simp append_assoc
 
 -- where one line has a blank the other has a digit
@@ -60,7 +60,7 @@ apart address y s more u v h =
     let others = replicate (21 - 3 * length longer) 32 in
     let bytes : spaced_bytes longer ≡ spaced_bytes s ++ (spaced_byte y ++ spaced_bytes more) = flat_map-append spaced_byte s (y ∷ more) in
     let left = fewer_is front (spaced_bytes s) blanks tab u (codes "\n") in
-    let right = ap (λ b. ((((front ++ b) ++ others) ++ tab) ++ v) ++ codes "\n") bytes
+    let right = ap (λ b. (((front ++ (b ++ others)) ++ tab) ++ v) ++ codes "\n") bytes
     ∙ more_is front (spaced_bytes s) (spaced_byte y) (spaced_bytes more) others tab v (codes "\n") in
     blank_first (21 - 3 * length s) (slice_index lower_digits (y / 16)) _ _ (no_digit 31 lower_digits refl (y / 16)) (no_digit 8 lower_digits refl (y / 16))
     (append_cancel_left (front ++ spaced_bytes s) _ _ (sym left ∙ h ∙ right))
