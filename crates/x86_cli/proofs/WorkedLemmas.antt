@@ -45,6 +45,7 @@ use Rattle.x86_layout.specs.Tightening.Least.{least_length}
 use Rattle.x86_cli.specs.Functions.{functions}
 use Rattle.x86_cli.specs.Headline.{AreRelatives, Headline, IsByteString, Sentence}
 use Rattle.x86_cli.specs.Sentences.{HasError, HasErrorByBytes, Encodes, by_bytes, case_1, case_2, case_3, case_4, case_5, part_ends}
+use Rattle.x86_cli.proofs.HeadlineLemmas.Fields.{is_permitted, permits}
 use Rattle.x86_cli.proofs.HeadlineLemmas.Sentences.{whole_in}
 use Rattle.x86_cli.specs.Worked.{add_parts, no_row_parts, add_rax_rbx, mov_rax_at_rbp, neg_eax, add_at_rbx_rax, places_at, pshufb_xmm0_xmm1, add_eax_ebx}
 
@@ -312,12 +313,12 @@ bytes (x ∷ xs) h (suc k) d less = bytes xs h.1 k d (omega (arith, less))
 module _ (strict : Bool) (h : Headline printed_row strict (functions strict)) where
   pub add_permitted : (f : Fields) → lists_in f ≡ add_parts → IsPermitted strict f
   unfolding add_sentence
-  add_permitted f same = (h.permitted f).1 (_, _, add_sentence strict, sym same)
+  add_permitted f same = is_permitted strict f ((h.permitted f).1 (_, _, add_sentence strict, sym same))
 
   -- 06 has an error, and so it is no sentence
   pub no_row_refused : (f : Fields) → lists_in f ≡ no_row_parts → IsPermitted strict f → ⊥
   no_row_refused f same permitted =
-      let (s, i, is, parts) = (h.permitted f).0 permitted in
+      let (s, i, is, parts) = (h.permitted f).0 (permits strict f permitted) in
       let all : s ++ [] ≡ (0x06 ∷ []) ++ [] = append-nil s ∙ is.whole ∙ ap joined (parts ∙ same) in
       absurd (cc ((h.unique s [] (0x06 ∷ []) [] (Ok i) (Err InvalidOpcode) all is (omega arith, no_row_errs strict)).1))
 

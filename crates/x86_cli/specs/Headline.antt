@@ -1,6 +1,6 @@
 -- The headline: what is proved of every byte string under a choice, each fact by a name. It is over any rows, and over the functions
 -- by which the clauses of calls speak.
-use Rattle.std.specs.Prelude.{◌≡◌, ◌≢◌, ◌↔◌, ℕ, ◌+◌, ◌<◌, ◌≤◌, Bool, true, false, List, [], ◌∷◌, ◌++◌, length, map, Result, Ok, Err, Some, All}
+use Rattle.std.specs.Prelude.{◌≡◌, ◌≢◌, ◌↔◌, ℕ, ◌+◌, ◌<◌, ◌≤◌, Bool, IsTrue, true, false, List, [], ◌∷◌, ◌++◌, length, map, Result, Ok, Err, Some, All}
 use Rattle.x86_fields.specs.declared.errors.DecodeError.{DecodeError}
 use Rattle.x86_fields.specs.declared.errors.DecodeError.TheVariants.{ExhaustedInput}
 use Rattle.x86_fields.specs.declared.raw.Raw.{Raw}
@@ -27,10 +27,10 @@ use Rattle.x86_cli.specs.Sentences.{Encodes, HasError}
 
 -- The functions by which clauses say what calls do: the answer of bytes, their parts, whether fields are permitted, the listing of an
 -- image and its ending by such lines from a place on, the cuts of bytes, and the least length.
-pub record Functions : Type 1 where
+pub record Functions : Type 0 where
   pub answer : List ℕ → Result Instruction DecodeError
   pub parts : List ℕ → PartLists
-  pub permits : Fields → Type 0
+  pub permits : Fields → Bool
   pub lists : (ℕ → Instruction → List ℕ → List ℕ) → ℕ → List ℕ → Ending → Listing
   pub cuts : ℕ → List ℕ → List Cut
   pub least : List ℕ → ℕ
@@ -97,7 +97,7 @@ module _ (rows : Rows) (strict : Bool) where
       pub no_cut : (place : ℕ) → does.cuts place [] ≡ []
       -- The parts of bytes are those of their sentence, and fields are permitted exactly where they are such parts.
       pub parts : (s rest : List ℕ) (i : Instruction) (is : Sentence s i) → does.parts (s ++ rest) ≡ is.parts
-      pub permitted : (f : Fields) → does.permits f ↔
+      pub permitted : (f : Fields) → IsTrue (does.permits f) ↔
           ((s : List ℕ) × (i : Instruction) × (is : Sentence s i) × (is.parts ≡ lists_in f))
       -- An address that isn't relative to the next instruction has a spelling of this length, and none that is shorter. All
       -- relatives of an encoding are one instruction, but for X and B of a REX and memory.

@@ -6,5 +6,6 @@ pub mod Listings
 pub mod Sentences
 pub mod Headline
 pub mod Functions
+pub mod Consequences
 pub mod Worked
 pub mod Commands

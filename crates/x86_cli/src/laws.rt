@@ -26,7 +26,8 @@ ghost use Rattle.x86_cli.specs.Commands.Follows.{IsExact, HasReadFault, Complete
 ghost use Rattle.x86_cli.specs.Listings.Certain.{AwaitsMore, BeforeReads, KnowsAll, SentAllCertain};
 ghost use Rattle.x86_cli.specs.Listings.Grammar.{AreCuts, IsListing};
 ghost use Rattle.x86_cli.specs.Functions.{functions};
-ghost use Rattle.x86_cli.specs.Headline.{Headline};
+ghost use Rattle.x86_cli.specs.Consequences.{AreSame, Consequences};
+ghost use Rattle.x86_cli.specs.Headline.{Functions, Headline};
 ghost use Rattle.x86_cli.specs.Sentences.{Encodes, HasError};
 ghost use Rattle.x86_cli.specs.declared.listings.fields.FieldLines.{FieldLines};
 ghost use Rattle.x86_cli.specs.declared.listings.line.Plain.{Plain};
@@ -100,6 +101,25 @@ fn headline_of_bytes()
     x86_layout::laws::parts_are_those_of_the_bytes();
     x86_layout::laws::permitted_fields_are_the_parts_of_sentences();
     x86_layout::laws::shortest_relatives_have_the_least_length();
+    x86_layout::laws::relatives_are_the_same_instruction();
+}
+
+/// What follows of the headline. It fixes its functions: any that have it agree wherever it speaks of them. And what the
+/// fields together say of answers, listings, parts and relatives holds of any functions that have it over the printed rows.
+pub fn consequences()
+    ensures same { (rows : Rows) (strict : Bool) (does other : Functions)
+        → Headline rows strict does → Headline rows strict other → AreSame rows strict does other }
+    ensures follow { (strict : Bool) (does : Functions) → Headline printed_row strict does
+        → Consequences printed_row strict does }
+{
+    headline_of_bytes();
+    by_grammar();
+    laws::answer_is();
+    laws::lengths();
+    laws::decided_bytes_are_refused();
+    x86_forms::laws::printed_words_are_the_printed_rows();
+    x86_layout::laws::permitted_fields_are_split_again();
+    x86_layout::laws::accepted_encodings_are_emitted_again();
     x86_layout::laws::relatives_are_the_same_instruction();
 }
 

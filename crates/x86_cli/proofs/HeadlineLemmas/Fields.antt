@@ -1,6 +1,6 @@
 -- The fields of the headline, from the laws of the crates below, over the packed rows.
 use Rattle.std.proofs.Common.{◌≡◌, ◌≢◌, ◌↔◌, ℕ, zero, suc, ◌+◌, ◌<◌, ◌≤◌, Bool, true, false, List, [], ◌∷◌, ◌++◌, length, map, drop, Result}
-use Rattle.std.proofs.Common.{Ok, Err, Some, refl, sym, ap, ◌∙◌, subst, arith, length-append}
+use Rattle.std.proofs.Common.{Ok, Err, Option, Some, None, is_none, refl, sym, ap, ◌∙◌, subst, arith, length-append}
 use Rattle.std.proofs.Math.Seq.{take-append_seam, drop-append_seam}
 use Rattle.std.specs.List.{list_any}
 use Rattle.x86_fields.specs.declared.errors.DecodeError.{DecodeError}
@@ -22,7 +22,7 @@ use Rattle.x86_decode.specs.Grammar.{IsAnswer, IsRefusal}
 use Rattle.x86_decode.proofs.AnswerLemmas.{at_most_fifteen}
 use Rattle.x86_layout.specs.declared.parts.fields.Fields.{Fields}
 use Rattle.x86_layout.specs.Parts.Fields.{lists_in}
-use Rattle.x86_layout.specs.Parts.Permitted.{ArePartsOfSentence}
+use Rattle.x86_layout.specs.Parts.Permitted.{ArePartsOfSentence, IsPermitted, first_failing}
 use Rattle.x86_layout.specs.Parts.Split.{HasParts, joined, sib_width}
 use Rattle.x86_layout.specs.Sweeps.Cuts.{cut_length, cuts_from}
 use Rattle.x86_layout.specs.Tightening.Registers.{is_ip_relative}
@@ -80,6 +80,10 @@ same_by p q prefixes escape opcode modrm long tails immediate suffix =
     let disp : p.displacement ≡ q.displacement = sym (drop-append_seam p.sib p.displacement) ∙ rw (long, tails) (drop-append_seam q.sib q.displacement) in
     grind (arith, sib, disp, prefixes, escape, opcode, modrm, immediate, suffix)
 
+none : {A : Type 0} (o : Option A) → is_none o ≡ true → o ≡ None
+none None h = refl
+none (Some x) h = absurd (cc (h))
+
 module _ (strict : Bool) where
   module _ (s : List ℕ) (i : Instruction) (f : Encodes R strict true s i) where
     sib_is : length f.parts.sib ≡ sib_width (modrm_of (record_of strict f.row (seen_by f.opcode_map f.byte (reading_of f.parts.prefixes))).modrm f.parts.modrm)
@@ -114,6 +118,13 @@ module _ (strict : Bool) where
         same_by g.parts (lists_in f) (sym h.prefixes) (sym h.escape) (sym h.opcode) (sym h.modrm) (g.sib_length ∙ sym h.sib)
             (halves R strict s a.sentence.reading a.sentence.whole ∙ sym h.address) (sym h.immediate) (sym h.suffix),
       )
+
+  -- no condition fails
+  pub is_permitted : (f : Fields) → is_none (first_failing strict f) ≡ true → IsPermitted strict f
+  is_permitted f h = none (first_failing strict f) h
+
+  pub permits : (f : Fields) → IsPermitted strict f → is_none (first_failing strict f) ≡ true
+  permits f h = ap is_none h
 
   at_joined : (p : PartLists) (s : List ℕ) (i : Instruction) (g : Sentence R strict s i) → g.parts ≡ p →
       (j : Instruction) × (is : was.IsSentence R strict (joined p) j) × HasParts strict (joined p) is.reading is.whole p

@@ -8,7 +8,7 @@ use Rattle.x86_layout.specs.Sweeps.Cuts.{cuts_skipping}
 use Rattle.x86_cli.specs.Headline.{Headline}
 use Rattle.x86_cli.specs.Listings.Listing.{listing_from}
 use Rattle.x86_cli.proofs.HeadlineLemmas.Fields.{R, begins, cut_of, named, operand_form, parts_are, parts_from, parts_to, relative_from}
-use Rattle.x86_cli.proofs.HeadlineLemmas.Fields.{relative_to, settled, settles}
+use Rattle.x86_cli.proofs.HeadlineLemmas.Fields.{is_permitted, permits, relative_to, settled, settles}
 use Rattle.x86_cli.proofs.HeadlineLemmas.Sentences.{back, to, whole_in}
 use Rattle.x86_cli.proofs.ListingLemmas.Grammar.{GrammarLaws, error_here, sentence_here}
 use Rattle.x86_cli.proofs.laws.headline_of_bytes.Goals as goal
@@ -42,8 +42,8 @@ packed_headline c strict =
       no_cut = λ place. refl;
       parts = λ s rest i f. parts_are strict s i f _ (c.parts_are_those_of_the_bytes.ensures strict s rest f.reading (whole_in R strict true s i f));
       permitted = λ f. (
-        (λ p. parts_to strict f ((c.permitted_fields_are_the_parts_of_sentences.ensures strict f).0 p)),
-        (λ x. (c.permitted_fields_are_the_parts_of_sentences.ensures strict f).1 (parts_from strict f x)),
+        (λ p. parts_to strict f ((c.permitted_fields_are_the_parts_of_sentences.ensures strict f).0 (is_permitted strict f p))),
+        (λ x. permits strict f ((c.permitted_fields_are_the_parts_of_sentences.ensures strict f).1 (parts_from strict f x))),
       );
       shortest = λ s i f k raw has differs bytes.
           let t = c.shortest_relatives_have_the_least_length.ensures strict s i (back R strict s i f) bytes (operand_form strict s i f k raw has differs) in
