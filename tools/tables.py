@@ -253,7 +253,7 @@ WRITTEN = {
     TEXT / "src" / "mnemonics.rt": lambda text: filled(text, {"MNEMONICS": name_lines(16, names())}),
     TEXT / "src" / "registers.rt": lambda text: filled(text, {of.upper(): name_lines(8, texts) for of, texts in registers()}),
     TEXT / "src" / "sizes.rt": sizes_rt,
-    SHOW / "src" / "text" / "entries.rt": entries_rt,
+    SHOW / "src" / "text" / "tables.rt": entries_rt,
 }
 
 

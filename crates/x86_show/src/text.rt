@@ -2,7 +2,6 @@
 
 mod choices;
 mod context;
-mod entries;
 mod immediates;
 mod instructions;
 mod letters;
@@ -11,8 +10,11 @@ mod names;
 mod numbers;
 mod operands;
 mod rare;
+mod registers;
 mod rex;
 mod sizes;
+mod strings;
+mod tables;
 mod words;
 
 pub use instructions::put_instruction;

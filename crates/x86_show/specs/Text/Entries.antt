@@ -1,5 +1,5 @@
 -- How objdump writes each operation: its name, where that isn't the mnemonic in lower case, and six letters, where one of
--- them isn't a dash. tools/tables.py writes src/text/entries from this list.
+-- them isn't a dash. tools/tables.py writes src/text/tables from this list.
 --
 -- The letters, in their order:
 --   name      what follows the name or replaces it (Names)

@@ -5,7 +5,7 @@ ghost use Rattle.x86_show.specs.Text.Entries.{entry_for, stem, name_letter, shap
 ghost use Rattle.x86_show.specs.Text.Names.{name_in_one, name_of_01, name_of_18, name_in_of, special_name, pushes_short, suffix_of, is_plain, is_in_name, comparisons, comparison_name, name_unless, product_name, name_with_immediate, long_name, listed_name};
 
 use crate::text::context::Context;
-use crate::text::entries::ENTRIES;
+use crate::text::tables::ENTRIES;
 use x86_forms::Map;
 use x86_opcodes::Opcode;
 use x86_opcodes::laws::names_are_in_the_order_of_their_numbers;

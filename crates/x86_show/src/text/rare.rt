@@ -2,135 +2,21 @@
 
 ghost use Rattle.std.specs.Prelude.{◌≡◌, ◌+◌, ◌<◌, ◌≤◌, ◌++◌, drop, length, take};
 ghost use Rattle.x86_fields.specs.Parts.{lists_of};
-ghost use Rattle.x86_show.specs.Text.Operands.{register_named, string_size, accumulator_text, source_text, destination_text, string_first, string_second, string_text, table_text, two_numbers, exchange_text, rm_register, offset_address, offset_accumulator, offset_text, segment_move_text, x87_register, two_registers, x87_registers, x87_text, hint_text, field_text, without_named, last_text, rare_text};
+ghost use Rattle.x86_show.specs.Text.Operands.{table_text, two_numbers, exchange_text, rm_register, offset_address, offset_accumulator, offset_text, segment_move_text, x87_register, two_registers, x87_registers, x87_text, hint_text, field_text, without_named, last_text, rare_text};
 
 use crate::text::context::Context;
 use crate::text::memory::put_segment;
 use crate::text::names::is_in_name;
 use crate::text::numbers::plain_number;
 use crate::text::operands::{Shown, put_first_operands, put_operand_at};
-use crate::text::sizes::put_size;
-use x86_decode::Instruction;
+use crate::text::registers::put_register_of;
+use crate::text::strings::put_string;
 use x86_fields::extend;
-use x86_opcodes::Opcode;
 use x86_operands::Operand;
-use x86_regs::{RegSpec, RegisterClass};
+use x86_regs::RegisterClass;
 use x86_streams::lines::cells::{put, put_bytes};
 use x86_streams::lines::hexadecimal::put_prefixed;
 use x86_text::put_register;
-
-/// The bytes that a string operation moves at a time.
-fn string_size(context: &Context, inst: &Instruction) -> u8
-    ensures { result ≡ string_size context.now inst.now }
-{
-    if context.opcode % 2 == 0 {
-        return 1;
-    }
-    match inst.opcode() {
-        Opcode::INS | Opcode::OUTS if context.has_two_bytes() => 2,
-        Opcode::INS | Opcode::OUTS => 4,
-        _ => context.prefixes.v_class().width(),
-    }
-}
-
-fn put_register_of(cells: &mut [u8], at: usize, class: RegisterClass, num: u8) -> usize
-    requires { at + 8 ≤ length cells.old }
-    ensures text { take result cells.new ≡ take at cells.old ++ register_named class num }
-    ensures short { result ≤ at + 6 }
-{
-    put_register(cells, at, &RegSpec::of(num, class))
-}
-
-fn put_accumulator(cells: &mut [u8], at: usize, size: u8) -> usize
-    requires { at + 8 ≤ length cells.old }
-    ensures text { take result cells.new ≡ take at cells.old ++ accumulator_text size }
-    ensures short { result ≤ at + 6 }
-{
-    match size {
-        1 => put_register_of(cells, at, RegisterClass::B, 0),
-        2 => put_register_of(cells, at, RegisterClass::W, 0),
-        4 => put_register_of(cells, at, RegisterClass::D, 0),
-        _ => put_register_of(cells, at, RegisterClass::Q, 0),
-    }
-}
-
-fn put_source(cells: &mut [u8], at: usize, context: &Context, size: u8) -> usize
-    requires { at + 32 ≤ length cells.old }
-    ensures text { take result cells.new ≡ take at cells.old ++ source_text context.now size }
-    ensures short { result ≤ at + 24 }
-{
-    let at = put_size(cells, at, size);
-    let at = put_segment(cells, at, context, b"ds: ", 3);
-    if context.prefixes.address_size() {
-        put_bytes(cells, at, b"[esi]")
-    } else {
-        put_bytes(cells, at, b"[rsi]")
-    }
-}
-
-fn put_destination(cells: &mut [u8], at: usize, context: &Context, size: u8) -> usize
-    requires { at + 32 ≤ length cells.old }
-    ensures text { take result cells.new ≡ take at cells.old ++ destination_text context.now size }
-    ensures short { result ≤ at + 24 }
-{
-    let at = put_size(cells, at, size);
-    if context.prefixes.address_size() {
-        put_bytes(cells, at, b"es:[edi]")
-    } else {
-        put_bytes(cells, at, b"es:[rdi]")
-    }
-}
-
-fn put_string_first(
-    cells: &mut [u8],
-    at: usize,
-    context: &Context,
-    inst: &Instruction,
-    size: u8,
-) -> usize
-    requires { at + 32 ≤ length cells.old }
-    ensures text { take result cells.new ≡
-        take at cells.old ++ string_first context.now inst.now size }
-    ensures short { result ≤ at + 24 }
-{
-    match inst.opcode() {
-        Opcode::LODS | Opcode::SCAS => put_accumulator(cells, at, size),
-        Opcode::OUTS => put_bytes(cells, at, b"dx"),
-        Opcode::CMPS => put_source(cells, at, context, size),
-        _ => put_destination(cells, at, context, size),
-    }
-}
-
-fn put_string_second(
-    cells: &mut [u8],
-    at: usize,
-    context: &Context,
-    inst: &Instruction,
-    size: u8,
-) -> usize
-    requires { at + 32 ≤ length cells.old }
-    ensures text { take result cells.new ≡
-        take at cells.old ++ string_second context.now inst.now size }
-    ensures short { result ≤ at + 24 }
-{
-    match inst.opcode() {
-        Opcode::STOS => put_accumulator(cells, at, size),
-        Opcode::INS => put_bytes(cells, at, b"dx"),
-        Opcode::SCAS | Opcode::CMPS => put_destination(cells, at, context, size),
-        _ => put_source(cells, at, context, size),
-    }
-}
-
-fn put_string(cells: &mut [u8], at: usize, context: &Context, inst: &Instruction) -> usize
-    requires { at + 64 ≤ length cells.old }
-    ensures text { take result cells.new ≡ take at cells.old ++ string_text context.now inst.now }
-    ensures short { result ≤ at + 49 }
-{
-    let size = string_size(context, inst);
-    let at = put_string_first(cells, at, context, inst, size);
-    let at = put(cells, at, b',');
-    put_string_second(cells, at, context, inst, size)
-}
 
 /// Writes the operand of XLAT.
 fn put_table(cells: &mut [u8], at: usize, context: &Context) -> usize
@@ -147,25 +33,13 @@ fn put_table(cells: &mut [u8], at: usize, context: &Context) -> usize
     }
 }
 
-/// The first bytes, as many as are there, and those after them.
-fn split_at_most(bytes: &[u8], count: usize) -> (&[u8], &[u8])
-    ensures first { result.0.now ≡ take count bytes.now }
-    ensures rest { result.1.now ≡ drop count bytes.now }
-{
-    if count <= bytes.len() {
-        bytes.split_at(count)
-    } else {
-        (bytes, &[])
-    }
-}
-
 /// Writes two immediates: the first has so many bytes.
 fn put_two_numbers(cells: &mut [u8], at: usize, count: usize, bytes: &[u8]) -> usize
     requires { at + 37 ≤ length cells.old }
     ensures text { take result cells.new ≡ take at cells.old ++ two_numbers count bytes.now }
     ensures short { result ≤ at + 37 }
 {
-    let (first, second) = split_at_most(bytes, count);
+    let (first, second) = bytes.split_at(count.min(bytes.len()));
     let at = put_prefixed(cells, at, plain_number(first));
     let at = put(cells, at, b',');
     put_prefixed(cells, at, plain_number(second))

@@ -6,7 +6,7 @@ use Rattle.std.proofs.lemmas.List.{get_or-map}
 use Rattle.std.proofs.lemmas.Option.{slice_get-get_or}
 use Rattle.x86_opcodes.specs.Mnemonics.{Named, all_names, mnemonic}
 use Rattle.x86_show.specs.declared.text.names.Entry.{Entry}
-use Rattle.x86_show.specs.declared.text.entries.TheConstants.{ENTRIES}
+use Rattle.x86_show.specs.declared.text.tables.TheConstants.{ENTRIES}
 use Rattle.x86_show.specs.Text.Entries.{rows, entry_in, entry_for}
 use Rattle.x86_show.proofs.text.names.entry_for.Goals as goal
 
