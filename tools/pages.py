@@ -59,9 +59,8 @@ IN_PIECES = """#!/bin/sh
 """
 BIG = 1000000
 TIMES, SPARE_SECONDS, SPARE_KILOBYTES = 3, 1, 8192
-CODE = [f"crates/x86_tests/src/{name}.rt" for name in ("guide_tests", "rebuilder", "two_buffers")]
-CODE += ["crates/guide/src", "crates/guide/stdout"]
-TESTS = ["crates/x86_tests/src"]
+TESTS = ["crates/uses/src"]
+CODE = [*TESTS, "crates/uses/stdout"]
 QUOTING = ["docs/ROWS.md", "docs/ENCODING.md", "docs/ARCHITECTURE.md", "CONTRIBUTING.md"]
 TOOLS_OF_COSTS = "objcopy xxd readelf perl"
 LINKING = ["docs/THEOREM.md", "docs/DEFINITIONS.md"]
@@ -277,7 +276,7 @@ def links(page):
 
 def paths(page):
     """The files that a page names by their crate, by tools/ or by docs/, and that aren't there."""
-    named = re.findall(r"\b((?:x86\w*|guide)/(?:src|specs|proofs|must-fail)/[\w./-]*\w|(?:tools|docs)/[\w./-]*\w)", (TOP / page).read_text())
+    named = re.findall(r"\b((?:x86\w*|uses)/(?:src|specs|proofs|must-fail)/[\w./-]*\w|(?:tools|docs)/[\w./-]*\w)", (TOP / page).read_text())
     return [f"no file is {path}" for path in dict.fromkeys(named) if not (TOP / path).exists() and not (TOP / "crates" / path).exists()]
 
 
@@ -308,7 +307,7 @@ def counts(page):
         "docs/PROVED.md": [of_c, encodings],
         "docs/DECISIONS.md": [names],
         "crates/x86_opcodes/README.md": [names],
-        "crates/x86_tests/README.md": [encodings],
+        "crates/uses/README.md": [encodings],
         "docs/ROWS.md": [(r"Of the (\d+) forms (\d+) are groups", [len(tables.forms()), groups])],
     }
     for said, numbers in wanted.get(page, ()):

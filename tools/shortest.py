@@ -1,5 +1,5 @@
 #!/usr/bin/env python3
-"""Writes crates/x86_tests/src/shortest_table.rt: encodings with a memory operand, each with its shortest spellings.
+"""Writes crates/uses/src/tests/shortest_table.rt: encodings with a memory operand, each with its shortest spellings.
 
 It tries every mod, rm and SIB byte, every bit X and B of a live REX, every displacement of one byte, and the displacements of
 four bytes that the encodings have. GNU objdump says which address each spells, so nothing here knows how an address is encoded.
@@ -17,7 +17,7 @@ import sys
 import tempfile
 
 TOP = os.path.dirname(os.path.dirname(os.path.abspath(__file__)))
-TABLE = os.path.join(TOP, "crates/x86_tests/src/shortest_table.rt")
+TABLE = os.path.join(TOP, "crates/uses/src/tests/shortest_table.rt")
 COUNT = 300
 # What is before ModRM, after it and what is after the address: operations with one operand of memory.
 OPERATIONS = [

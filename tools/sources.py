@@ -40,7 +40,7 @@ def package(*tools):
 
 
 # The code whose changes make a figure older: all but the tests.
-CODE = ["--", "crates/*/src/*.rt", ":!crates/x86_tests"]
+CODE = ["--", "crates/*/src/*.rt", ":!crates/uses/src/tests"]
 
 
 def git(*words):
@@ -49,9 +49,9 @@ def git(*words):
 
 
 def worked_lines():
-    """The worked lines of x86_tests: an encoding in hex digits, and what is listed of it."""
+    """The worked lines of the tests: an encoding in hex digits, and what is listed of it."""
     line = re.compile(r'^(?:.*")?((?:[0-9a-f]{2} ?)+) => (\d+ .*?)(?:";)?$', re.M)
-    return [found for path in sorted((CRATES / "x86_tests" / "src").glob("*.rt")) for found in line.findall(path.read_text())]
+    return [found for path in sorted((CRATES / "uses" / "src" / "tests").glob("*.rt")) for found in line.findall(path.read_text())]
 
 
 def anchor(heading):

@@ -12,7 +12,7 @@ The lists, which people edit:
     crates/x86_regs/specs/Names.antt           the registers of each class
     crates/x86_operands/specs/Rows.antt        the rows of the plain forms, a line for each row
     crates/x86_groups/specs/Rows.antt          the rows of the groups, a line for each row
-    crates/x86_show/specs/Text/Entries.antt    how `show` writes an operation, a line for each that isn't written as its name
+    crates/x86_objdump/specs/Text/Entries.antt    how `show` writes an operation, a line for each that isn't written as its name
 
 tools/form_rows.py has the tables of rows, and tools/form_cells.py which of them form, mod and reg alone choose. The script writes the lines of data alone:
 imports, heads of tables, functions and comments of the files are edited by hand.
@@ -37,7 +37,7 @@ REGS = TOP / "crates" / "x86_regs"
 OPERANDS = TOP / "crates" / "x86_operands"
 GROUPS = TOP / "crates" / "x86_groups"
 TEXT = TOP / "crates" / "x86_text"
-SHOW = TOP / "crates" / "x86_show"
+SHOW = TOP / "crates" / "x86_objdump"
 
 MAPS = ["One", "Of", "Of38", "Of3a"]
 COLUMNS = ["Plain", "P66", "F3", "F2"]
@@ -253,7 +253,7 @@ WRITTEN = {
     TEXT / "src" / "mnemonics.rt": lambda text: filled(text, {"MNEMONICS": name_lines(16, names())}),
     TEXT / "src" / "registers.rt": lambda text: filled(text, {of.upper(): name_lines(8, texts) for of, texts in registers()}),
     TEXT / "src" / "sizes.rt": sizes_rt,
-    SHOW / "src" / "text" / "entries.rt": entries_rt,
+    SHOW / "src" / "text" / "tables.rt": entries_rt,
 }
 
 

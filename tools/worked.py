@@ -1,6 +1,6 @@
 #!/usr/bin/env python3
 """worked.py: names each row of an opcode map or of a form, and each of eight names in a row, that no worked line of
-x86_tests reaches.
+the tests reaches.
 
 The proof holds rows against what their columns mean (specs/Columns.antt of x86_operands), and the code has the same
 columns. What they mean is tested by lines that come from the manual or from another decoder. A row of an opcode map,

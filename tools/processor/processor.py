@@ -58,9 +58,9 @@ def hold_rows():
 
 
 def worked():
-    """The worked lines of x86_tests, as cases and lines."""
+    """The worked lines of the tests, as cases and lines."""
     cases, lines = bytearray(), []
-    for path in sorted((TOP / "crates" / "x86_tests" / "src").glob("*_table.rt")):
+    for path in sorted((TOP / "crates" / "uses" / "src" / "tests").glob("*_table.rt")):
         for code, words in re.findall(r'^(?:.*")?((?:[0-9a-f]{2} ?)+) => (\d+ [^|\n]*?)(?:";)?$', path.read_text(), re.M):
             code, (first, rest) = bytes.fromhex(code), words.split(" ", 1)
             rest = rest if rest[0].isdigit() else f"error: {rest}" + f" after {len(code)}" * rest.startswith("exhausted")

@@ -1,19 +1,10 @@
-//! A listing for people of the x86-64 instructions of a hex text: a line has the address, the bytes, and the instruction
-//! with hexadecimal numbers, segments, and the targets of branches.
+//! A listing for people of the x86-64 instructions of a hex text: the words, three streams, and the code of the end.
 #![tactic(auto)]
 
-mod laws;
-mod listing;
-mod program;
-#[cfg(test)]
-mod tests;
-mod text;
-mod vectors;
-
-use program::{finish, shown};
 use std::process::ExitCode;
 use std::{env, io};
 use x86_cli::{Joined, Process, words};
+use x86_objdump::{finish, shown};
 
 /// The words after the program's name.
 fn arguments(rt: &HostRuntime) -> io::Result<Vec<String>> {

@@ -1,0 +1,29 @@
+//! Tests of the libraries and of the programs: worked answers, lines and runs, and the examples of docs/GUIDE.md.
+
+mod accessor_tests;
+mod bound_tests;
+mod decoding;
+mod flow_tests;
+mod group_table;
+mod guide_tests;
+mod line_tests;
+mod mixed_table;
+mod operand_tests;
+mod parts_tests;
+mod plain_table;
+mod plain_tests;
+mod reader_tests;
+mod rebuilder;
+mod refusal_table;
+mod refusal_tests;
+mod row_table;
+mod runs;
+mod shortest_table;
+mod show_tests;
+mod slot_tests;
+mod sweep_tests;
+mod table_tests;
+mod text_tests;
+mod tighten_tests;
+mod walk_tests;
+mod x87_table;

@@ -1,0 +1,73 @@
+//! The listing of a text, line by line.
+
+ghost use Rattle.x86_objdump.specs.Listing.{shown_at, known_at, showing};
+
+use crate::lines::{SHOWN_ROOM, ShownLine, write_bad, write_shown, write_vector};
+use crate::vectors::{Vector, vector_at};
+use x86_cli::laws::decoder_laws;
+use x86_cli::listings::listing::{Course, Entry, length_of, list};
+use x86_cli::listings::sweep::shown_at;
+use x86_cli::text::window::AtRefusal;
+use x86_cli::{Finished, Program};
+use x86_decode::{InstDecoder, Instruction};
+use x86_streams::lines::Place;
+use x86_streams::{Input, Output, Window};
+
+/// The listing of an image that begins at an address.
+#[derive(Drop)]
+pub struct ShowAt {
+    pub base: u64,
+}
+
+impl Course<SHOWN_ROOM> for ShowAt {
+    ghost lists = { λ s strict place text. shown_at strict s.base place text };
+
+    ghost knows = { λ s strict place text. known_at strict s.base place text };
+
+    #[inline(always)]
+    fn next(
+        &self,
+        decoder: &InstDecoder,
+        window: &Window,
+        place: &Place,
+        inst: &mut Instruction,
+        line: &mut ShownLine,
+    ) -> Entry {
+        decoder_laws();
+        let bytes = window.bytes.as_slice();
+        let address = self.base.wrapping_add(place.number());
+        match decoder.decode_slice_into(inst, bytes) {
+            Ok(()) => {
+                let length = length_of(inst);
+                write_shown(line, decoder, address, inst, bytes);
+                Entry::Line(length)
+            }
+            Err(error) => match shown_at(window, error) {
+                AtRefusal::Undecided => Entry::Undecided,
+                AtRefusal::Ended(ending) => Entry::Ended(ending),
+                AtRefusal::Refused => match vector_at(bytes, window.ended.is_some()) {
+                    Vector::Cut => Entry::Undecided,
+                    Vector::Whole(length) => {
+                        write_vector(line, address, &bytes[..length]);
+                        Entry::Line(length as u64)
+                    }
+                    Vector::Absent => {
+                        write_bad(line, address, &bytes[..1]);
+                        Entry::Line(1)
+                    }
+                },
+            },
+        }
+    }
+}
+
+/// Shows the hex text of a reader, whose image begins at the address `base`: a line for each instruction, for each VEX, EVEX
+/// or XOP encoding, and for each byte that begins none, as soon as it is decided. The status is as of `sweep`.
+impl Program for ShowAt {
+    ghost task = { λ s. showing s.base };
+
+    fn run<E, O: Input<E> + Output<E>>(&self, outside: &O, streams: &mut E) -> Finished {
+        let decoder = InstDecoder::default();
+        list(&decoder, self, u64::MAX / 4, outside, streams)
+    }
+}

@@ -1,0 +1,316 @@
+//! The operands of instructions.
+
+ghost use Rattle.std.specs.Prelude.{◌≡◌, ◌+◌, ◌*◌, ◌<◌, ◌≤◌, ◌++◌, length, take};
+ghost use Rattle.x86_fields.specs.Parts.{lists_of};
+ghost use Rattle.x86_decode.specs.Instruction.{operands_of, slot_at};
+ghost use Rattle.x86_objdump.specs.Text.Immediates.{immediate_text};
+ghost use Rattle.x86_objdump.specs.Text.Memory.{memory_text};
+ghost use Rattle.x86_objdump.specs.Text.Sizes.{memory_size, size_words};
+ghost use Rattle.x86_objdump.specs.Text.Operands.{operand_by, listed_operand, following_operands, list_text, first_text, target_text, is_rare_move, is_as_answered, is_target_alone, unlisted_text, listed_operands, comma};
+
+use crate::text::context::Context;
+use crate::text::immediates::put_immediate;
+use crate::text::memory::put_memory;
+use crate::text::names::Entry;
+use crate::text::numbers::signed_of;
+use crate::text::rare::put_rarely;
+use crate::text::sizes::{memory_size, put_register_in, put_size};
+use x86_decode::Instruction;
+use x86_fields::Parts;
+use x86_forms::Map;
+use x86_operands::{Operand, Slot};
+use x86_streams::lines::cells::put;
+use x86_streams::lines::hexadecimal::put_prefixed;
+
+/// An instruction with what the rules read of it.
+#[derive(Clone, Copy)]
+pub struct Shown<'a> {
+    pub context: &'a Context,
+    pub inst: &'a Instruction,
+    pub entry: &'a Entry,
+    pub parts: &'a Parts<'a>,
+}
+
+/// Writes memory with its size.
+#[inline(always)]
+fn put_sized_memory(cells: &mut [u8], at: usize, shown: &Shown) -> usize
+    requires { at + 64 ≤ length cells.old }
+    ensures text { take result cells.new ≡ take at cells.old
+        ++ (size_words (memory_size shown.now.context.now shown.now.inst.now shown.now.entry.now)
+        ++ memory_text shown.now.context.now (lists_of shown.now.parts.now)) }
+    ensures short { result ≤ at + 52 }
+{
+    let at = put_size(
+        cells,
+        at,
+        memory_size(shown.context, shown.inst, shown.entry),
+    );
+    put_memory(cells, at, shown.context, shown.parts)
+}
+
+/// Writes an immediate by a copy of the context.
+#[inline(always)]
+fn put_immediate_apart(cells: &mut [u8], at: usize, context: &Context, bytes: &[u8]) -> usize
+    requires { at + 18 ≤ length cells.old }
+    ensures text { take result cells.new ≡
+        take at cells.old ++ immediate_text context.now bytes.now }
+    ensures short { result ≤ at + 18 }
+{
+    let context = *context;
+    put_immediate(cells, at, &context, bytes)
+}
+
+/// Writes an operand that comes from a slot.
+#[inline(always)]
+fn put_operand(cells: &mut [u8], at: usize, shown: &Shown, slot: Slot, operand: &Operand) -> usize
+    requires { at + 64 ≤ length cells.old }
+    ensures text { take result cells.new ≡ take at cells.old
+        ++ operand_by shown.now.context.now shown.now.inst.now shown.now.entry.now (lists_of shown.now.parts.now)
+        slot operand.now }
+    ensures short { result ≤ at + 52 }
+{
+    match operand {
+        Operand::Register { reg } => {
+            put_register_in(cells, at, shown.context, shown.entry, slot, reg)
+        }
+        Operand::ImmediateI8 { .. }
+        | Operand::ImmediateU8 { .. }
+        | Operand::ImmediateI16 { .. }
+        | Operand::ImmediateU16 { .. }
+        | Operand::ImmediateI32 { .. }
+        | Operand::ImmediateU32 { .. }
+        | Operand::ImmediateI64 { .. }
+        | Operand::ImmediateU64 { .. } => {
+            put_immediate_apart(cells, at, shown.context, shown.parts.immediate)
+        }
+        _ => put_sized_memory(cells, at, shown),
+    }
+}
+
+/// Writes the operand at an index.
+#[inline(never)]
+pub fn put_operand_at(cells: &mut [u8], at: usize, shown: &Shown, k: u8) -> usize
+    requires there { k < 4 }
+    requires room { at + 64 ≤ length cells.old }
+    ensures text { take result cells.new ≡ take at cells.old
+        ++ listed_operand shown.now.context.now shown.now.inst.now shown.now.entry.now
+        (lists_of shown.now.parts.now) k }
+    ensures short { result ≤ at + 52 }
+{
+    put_operand(cells, at, shown, shown.inst.slot(k), &shown.inst.operand(k))
+}
+
+/// Writes operands from an index on, each after a comma.
+#[inline(never)]
+fn put_others(cells: &mut [u8], at: usize, shown: &Shown, k: u8, others: &[Operand]) -> usize
+    requires there { k + length others.now ≤ 4 }
+    requires room { at + 53 * length others.now + 64 ≤ length cells.old }
+    ensures text { take result cells.new ≡ take at cells.old
+        ++ following_operands shown.now.context.now shown.now.inst.now shown.now.entry.now (lists_of shown.now.parts.now)
+        k others.now }
+    ensures short { result ≤ at + 53 * length others.now }
+{
+    match others {
+        [] => at,
+        [first, rest @ ..] => {
+            let at = put(cells, at, b',');
+            let at = put_operand(cells, at, shown, shown.inst.slot(k), first);
+            put_others(cells, at, shown, k + 1, rest)
+        }
+    }
+}
+
+/// Writes the operands after the second, each after a comma. Few instructions have any.
+#[inline(always)]
+fn put_after_second(cells: &mut [u8], at: usize, shown: &Shown, others: &[Operand]) -> usize
+    requires few { length others.now ≤ 2 }
+    requires room { at + 170 ≤ length cells.old }
+    ensures text { take result cells.new ≡ take at cells.old
+        ++ following_operands shown.now.context.now shown.now.inst.now shown.now.entry.now (lists_of shown.now.parts.now)
+        2 others.now }
+    ensures short { result ≤ at + 106 }
+{
+    let context = *shown.context;
+    let parts = *shown.parts;
+    let shown = Shown {
+        context: &context,
+        inst: shown.inst,
+        entry: shown.entry,
+        parts: &parts,
+    };
+    put_others(cells, at, &shown, 2, others)
+}
+
+/// Writes the second operand after a comma.
+#[inline(always)]
+fn put_second(cells: &mut [u8], at: usize, shown: &Shown, second: &Operand) -> usize
+    requires { at + 65 ≤ length cells.old }
+    ensures text { take result cells.new ≡ take at cells.old
+        ++ comma ++ operand_by shown.now.context.now shown.now.inst.now shown.now.entry.now (lists_of shown.now.parts.now)
+        (slot_at shown.now.inst.now 1) second.now }
+    ensures short { result ≤ at + 53 }
+{
+    let at = put(cells, at, b',');
+    put_operand(cells, at, shown, shown.inst.slot(1), second)
+}
+
+/// Writes the first operands, joined by commas.
+#[inline(always)]
+fn put_list(cells: &mut [u8], at: usize, shown: &Shown, operands: &[Operand]) -> usize
+    requires few { length operands.now ≤ 4 }
+    requires room { at + 276 ≤ length cells.old }
+    ensures text { take result cells.new ≡ take at cells.old
+        ++ list_text shown.now.context.now shown.now.inst.now shown.now.entry.now (lists_of shown.now.parts.now)
+        operands.now }
+    ensures short { result ≤ at + 212 }
+{
+    match operands {
+        [] => at,
+        [first] => put_operand(cells, at, shown, shown.inst.slot(0), first),
+        [first, second] => {
+            let at = put_operand(cells, at, shown, shown.inst.slot(0), first);
+            put_second(cells, at, shown, second)
+        }
+        [first, second, others @ ..] => {
+            let at = put_operand(cells, at, shown, shown.inst.slot(0), first);
+            let at = put_second(cells, at, shown, second);
+            put_after_second(cells, at, shown, others)
+        }
+    }
+}
+
+/// Writes all operands as the decoder answers them.
+#[inline(always)]
+fn put_all(cells: &mut [u8], at: usize, shown: &Shown) -> usize
+    requires { at + 276 ≤ length cells.old }
+    ensures text { take result cells.new ≡ take at cells.old
+        ++ list_text shown.now.context.now shown.now.inst.now shown.now.entry.now (lists_of shown.now.parts.now)
+        (operands_of shown.now.inst.now) }
+    ensures short { result ≤ at + 212 }
+{
+    put_list(cells, at, shown, shown.inst.operands())
+}
+
+/// The first operands, or all where there are fewer.
+fn first_operands(operands: &[Operand], count: usize) -> &[Operand]
+    ensures { result.now ≡ take count operands.now }
+{
+    if count < operands.len() {
+        &operands[..count]
+    } else {
+        operands
+    }
+}
+
+/// Writes so many operands, or all where there are fewer.
+#[inline(never)]
+pub fn put_first_operands(cells: &mut [u8], at: usize, shown: &Shown, count: u8) -> usize
+    requires { at + 276 ≤ length cells.old }
+    ensures text { take result cells.new ≡ take at cells.old
+        ++ first_text shown.now.context.now shown.now.inst.now shown.now.entry.now (lists_of shown.now.parts.now)
+        count }
+    ensures short { result ≤ at + 212 }
+{
+    put_list(
+        cells,
+        at,
+        shown,
+        first_operands(shown.inst.operands(), count as usize),
+    )
+}
+
+/// Writes the address that a relative branch leads to.
+#[inline(always)]
+fn put_target(cells: &mut [u8], at: usize, next: u64, bytes: &[u8]) -> usize
+    requires { at + 18 ≤ length cells.old }
+    ensures text { take result cells.new ≡ take at cells.old ++ target_text next bytes.now }
+    ensures short { result ≤ at + 18 }
+{
+    put_prefixed(cells, at, next.wrapping_add_signed(signed_of(bytes)))
+}
+
+/// Whether a MOV isn't as its operands are.
+#[inline(always)]
+fn is_rare_move(context: &Context) -> bool
+    ensures { result ≡ is_rare_move context.now }
+{
+    matches!(context.map, Map::One)
+        && (context.is_offset()
+            || matches!(context.opcode, 0x8c | 0x8e) && !context.modrm.is_memory())
+}
+
+/// Whether the operands are written as the decoder answers them.
+#[inline(always)]
+fn is_as_answered(shown: &Shown) -> bool
+    ensures { result ≡ is_as_answered shown.now.context.now shown.now.entry.now }
+{
+    match shown.entry.shape_letter() {
+        b'-' => true,
+        b'k' => !is_rare_move(shown.context),
+        _ => false,
+    }
+}
+
+/// Whether the operand is the address that a relative branch leads to.
+#[inline(always)]
+fn is_target_alone(shown: &Shown) -> bool
+    ensures { result ≡ is_target_alone shown.now.context.now shown.now.entry.now }
+{
+    match shown.entry.shape_letter() {
+        b'j' => true,
+        b'J' => !shown.context.has_modrm,
+        _ => false,
+    }
+}
+
+/// Writes operands that are neither.
+#[inline(never)]
+fn put_unlisted(cells: &mut [u8], at: usize, shown: &Shown) -> usize
+    requires { at + 276 ≤ length cells.old }
+    ensures text { take result cells.new ≡ take at cells.old
+        ++ unlisted_text shown.now.context.now shown.now.inst.now shown.now.entry.now (lists_of shown.now.parts.now) }
+    ensures short { result ≤ at + 250 }
+{
+    match shown.entry.shape_letter() {
+        b'J' => put_operand_at(cells, at, shown, 0),
+        _ => put_rarely(cells, at, shown),
+    }
+}
+
+/// Calls `put_unlisted` with copies, so that what the caller shows needs no memory.
+#[inline(always)]
+fn put_apart(cells: &mut [u8], at: usize, shown: &Shown) -> usize
+    requires { at + 276 ≤ length cells.old }
+    ensures text { take result cells.new ≡ take at cells.old
+        ++ unlisted_text shown.now.context.now shown.now.inst.now shown.now.entry.now (lists_of shown.now.parts.now) }
+    ensures short { result ≤ at + 250 }
+{
+    let context = *shown.context;
+    let parts = *shown.parts;
+    let shown = Shown {
+        context: &context,
+        inst: shown.inst,
+        entry: shown.entry,
+        parts: &parts,
+    };
+    put_unlisted(cells, at, &shown)
+}
+
+/// Writes the operands of an instruction, where the next instruction is at the address `next`.
+#[inline(always)]
+#[tactic(auto, unfolding(crate::specs::Text::Operands::listed_operands))]
+pub fn put_operands(cells: &mut [u8], at: usize, shown: &Shown, next: u64) -> usize
+    requires { at + 276 ≤ length cells.old }
+    ensures text { take result cells.new ≡ take at cells.old
+        ++ listed_operands shown.now.context.now shown.now.inst.now shown.now.entry.now (lists_of shown.now.parts.now)
+        next }
+    ensures short { result ≤ at + 250 }
+{
+    if is_as_answered(shown) {
+        put_all(cells, at, shown)
+    } else if is_target_alone(shown) {
+        put_target(cells, at, next, shown.parts.immediate)
+    } else {
+        put_apart(cells, at, shown)
+    }
+}

@@ -1,5 +1,0 @@
-use Rattle.std.proofs.Common.{length}
-use Rattle.x86_show.proofs.text.operands.+put_others.Given as goal
-
-abbrev pub decreases-put_others : goal.decreases-put_others
-decreases-put_others l = length l.others.now
