@@ -9,4 +9,5 @@ pub mod Sizes
 pub mod Memory
 pub mod Immediates
 pub mod Operands
+pub mod Shown
 pub mod Instructions

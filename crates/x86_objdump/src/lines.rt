@@ -12,7 +12,6 @@ use x86_cli::laws::decoder_laws;
 use x86_cli::listings::listing::length_of;
 use x86_decode::laws::lengths;
 use x86_decode::{DecodeError, InstDecoder, Instruction};
-use x86_layout::split_decoded;
 use x86_streams::lines::Room;
 use x86_streams::lines::cells::{put, put_bytes, put_first};
 use x86_streams::lines::hexadecimal::{put_hexadecimal, put_spaced_bytes};
@@ -113,8 +112,14 @@ pub fn write_shown(
     let count = length_of(instruction) as usize;
     let at = put_beginning(&mut line.cells, address, bytes, count);
     let next = address.wrapping_add(length_of(instruction));
-    let parts = split_decoded(decoder, instruction, &bytes[..count]);
-    line.len = put_instruction(&mut line.cells, at, instruction, &parts, next);
+    line.len = put_instruction(
+        &mut line.cells,
+        at,
+        decoder,
+        instruction,
+        &bytes[..count],
+        next,
+    );
 }
 
 /// The line that `show` prints of the instruction at the beginning of the bytes, without its end, where its first byte is

@@ -12,6 +12,7 @@ mod operands;
 mod rare;
 mod registers;
 mod rex;
+mod shown;
 mod sizes;
 mod strings;
 mod tables;

@@ -1,43 +1,33 @@
 //! The operands of instructions.
 
 ghost use Rattle.std.specs.Prelude.{◌≡◌, ◌+◌, ◌*◌, ◌<◌, ◌≤◌, ◌++◌, length, take};
-ghost use Rattle.x86_fields.specs.Parts.{lists_of};
 ghost use Rattle.x86_decode.specs.Instruction.{operands_of, slot_at};
 ghost use Rattle.x86_objdump.specs.Text.Immediates.{immediate_text};
 ghost use Rattle.x86_objdump.specs.Text.Memory.{memory_text};
 ghost use Rattle.x86_objdump.specs.Text.Sizes.{memory_size, size_words};
 ghost use Rattle.x86_objdump.specs.Text.Operands.{operand_by, listed_operand, following_operands, list_text, first_text, target_text, is_rare_move, is_as_answered, is_target_alone, unlisted_text, listed_operands, comma};
+ghost use Rattle.x86_objdump.specs.Text.Shown.{IsRead, parts_in};
 
 use crate::text::context::Context;
 use crate::text::immediates::put_immediate;
 use crate::text::memory::put_memory;
-use crate::text::names::Entry;
 use crate::text::numbers::signed_of;
 use crate::text::rare::put_rarely;
+use crate::text::shown::{Shown, immediate_in, parts_in};
 use crate::text::sizes::{memory_size, put_register_in, put_size};
-use x86_decode::Instruction;
-use x86_fields::Parts;
 use x86_forms::Map;
 use x86_operands::{Operand, Slot};
 use x86_streams::lines::cells::put;
 use x86_streams::lines::hexadecimal::put_prefixed;
 
-/// An instruction with what the rules read of it.
-#[derive(Clone, Copy)]
-pub struct Shown<'a> {
-    pub context: &'a Context,
-    pub inst: &'a Instruction,
-    pub entry: &'a Entry,
-    pub parts: &'a Parts<'a>,
-}
-
 /// Writes memory with its size.
 #[inline(always)]
 fn put_sized_memory(cells: &mut [u8], at: usize, shown: &Shown) -> usize
-    requires { at + 64 ≤ length cells.old }
+    requires read { IsRead shown.now }
+    requires room { at + 64 ≤ length cells.old }
     ensures text { take result cells.new ≡ take at cells.old
         ++ (size_words (memory_size shown.now.context.now shown.now.inst.now shown.now.entry.now)
-        ++ memory_text shown.now.context.now (lists_of shown.now.parts.now)) }
+        ++ memory_text shown.now.context.now (parts_in shown.now)) }
     ensures short { result ≤ at + 52 }
 {
     let at = put_size(
@@ -45,7 +35,7 @@ fn put_sized_memory(cells: &mut [u8], at: usize, shown: &Shown) -> usize
         at,
         memory_size(shown.context, shown.inst, shown.entry),
     );
-    put_memory(cells, at, shown.context, shown.parts)
+    put_memory(cells, at, shown.context, &parts_in(shown))
 }
 
 /// Writes an immediate by a copy of the context.
@@ -63,9 +53,10 @@ fn put_immediate_apart(cells: &mut [u8], at: usize, context: &Context, bytes: &[
 /// Writes an operand that comes from a slot.
 #[inline(always)]
 fn put_operand(cells: &mut [u8], at: usize, shown: &Shown, slot: Slot, operand: &Operand) -> usize
-    requires { at + 64 ≤ length cells.old }
+    requires read { IsRead shown.now }
+    requires room { at + 64 ≤ length cells.old }
     ensures text { take result cells.new ≡ take at cells.old
-        ++ operand_by shown.now.context.now shown.now.inst.now shown.now.entry.now (lists_of shown.now.parts.now)
+        ++ operand_by shown.now.context.now shown.now.inst.now shown.now.entry.now (parts_in shown.now)
         slot operand.now }
     ensures short { result ≤ at + 52 }
 {
@@ -81,7 +72,7 @@ fn put_operand(cells: &mut [u8], at: usize, shown: &Shown, slot: Slot, operand: 
         | Operand::ImmediateU32 { .. }
         | Operand::ImmediateI64 { .. }
         | Operand::ImmediateU64 { .. } => {
-            put_immediate_apart(cells, at, shown.context, shown.parts.immediate)
+            put_immediate_apart(cells, at, shown.context, immediate_in(shown))
         }
         _ => put_sized_memory(cells, at, shown),
     }
@@ -90,11 +81,12 @@ fn put_operand(cells: &mut [u8], at: usize, shown: &Shown, slot: Slot, operand: 
 /// Writes the operand at an index.
 #[inline(never)]
 pub fn put_operand_at(cells: &mut [u8], at: usize, shown: &Shown, k: u8) -> usize
+    requires read { IsRead shown.now }
     requires there { k < 4 }
     requires room { at + 64 ≤ length cells.old }
     ensures text { take result cells.new ≡ take at cells.old
         ++ listed_operand shown.now.context.now shown.now.inst.now shown.now.entry.now
-        (lists_of shown.now.parts.now) k }
+        (parts_in shown.now) k }
     ensures short { result ≤ at + 52 }
 {
     put_operand(cells, at, shown, shown.inst.slot(k), &shown.inst.operand(k))
@@ -103,10 +95,11 @@ pub fn put_operand_at(cells: &mut [u8], at: usize, shown: &Shown, k: u8) -> usiz
 /// Writes operands from an index on, each after a comma.
 #[inline(never)]
 fn put_others(cells: &mut [u8], at: usize, shown: &Shown, k: u8, others: &[Operand]) -> usize
+    requires read { IsRead shown.now }
     requires there { k + length others.now ≤ 4 }
     requires room { at + 53 * length others.now + 64 ≤ length cells.old }
     ensures text { take result cells.new ≡ take at cells.old
-        ++ following_operands shown.now.context.now shown.now.inst.now shown.now.entry.now (lists_of shown.now.parts.now)
+        ++ following_operands shown.now.context.now shown.now.inst.now shown.now.entry.now (parts_in shown.now)
         k others.now }
     ensures short { result ≤ at + 53 * length others.now }
 {
@@ -123,20 +116,24 @@ fn put_others(cells: &mut [u8], at: usize, shown: &Shown, k: u8, others: &[Opera
 /// Writes the operands after the second, each after a comma. Few instructions have any.
 #[inline(always)]
 fn put_after_second(cells: &mut [u8], at: usize, shown: &Shown, others: &[Operand]) -> usize
+    requires read { IsRead shown.now }
     requires few { length others.now ≤ 2 }
     requires room { at + 170 ≤ length cells.old }
     ensures text { take result cells.new ≡ take at cells.old
-        ++ following_operands shown.now.context.now shown.now.inst.now shown.now.entry.now (lists_of shown.now.parts.now)
+        ++ following_operands shown.now.context.now shown.now.inst.now shown.now.entry.now (parts_in shown.now)
         2 others.now }
     ensures short { result ≤ at + 106 }
 {
+    if others.is_empty() {
+        return at;
+    }
     let context = *shown.context;
-    let parts = *shown.parts;
     let shown = Shown {
         context: &context,
+        decoder: shown.decoder,
         inst: shown.inst,
+        bytes: shown.bytes,
         entry: shown.entry,
-        parts: &parts,
     };
     put_others(cells, at, &shown, 2, others)
 }
@@ -144,9 +141,10 @@ fn put_after_second(cells: &mut [u8], at: usize, shown: &Shown, others: &[Operan
 /// Writes the second operand after a comma.
 #[inline(always)]
 fn put_second(cells: &mut [u8], at: usize, shown: &Shown, second: &Operand) -> usize
-    requires { at + 65 ≤ length cells.old }
+    requires read { IsRead shown.now }
+    requires room { at + 65 ≤ length cells.old }
     ensures text { take result cells.new ≡ take at cells.old
-        ++ comma ++ operand_by shown.now.context.now shown.now.inst.now shown.now.entry.now (lists_of shown.now.parts.now)
+        ++ comma ++ operand_by shown.now.context.now shown.now.inst.now shown.now.entry.now (parts_in shown.now)
         (slot_at shown.now.inst.now 1) second.now }
     ensures short { result ≤ at + 53 }
 {
@@ -154,27 +152,42 @@ fn put_second(cells: &mut [u8], at: usize, shown: &Shown, second: &Operand) -> u
     put_operand(cells, at, shown, shown.inst.slot(1), second)
 }
 
+/// Writes the operands after the first, each after a comma.
+#[inline(always)]
+fn put_after_first(cells: &mut [u8], at: usize, shown: &Shown, others: &[Operand]) -> usize
+    requires read { IsRead shown.now }
+    requires few { length others.now ≤ 3 }
+    requires room { at + 224 ≤ length cells.old }
+    ensures text { take result cells.new ≡ take at cells.old
+        ++ following_operands shown.now.context.now shown.now.inst.now shown.now.entry.now (parts_in shown.now)
+        1 others.now }
+    ensures short { result ≤ at + 159 }
+{
+    match others {
+        [] => at,
+        [second, rest @ ..] => {
+            let at = put_second(cells, at, shown, second);
+            put_after_second(cells, at, shown, rest)
+        }
+    }
+}
+
 /// Writes the first operands, joined by commas.
 #[inline(always)]
 fn put_list(cells: &mut [u8], at: usize, shown: &Shown, operands: &[Operand]) -> usize
+    requires read { IsRead shown.now }
     requires few { length operands.now ≤ 4 }
     requires room { at + 276 ≤ length cells.old }
     ensures text { take result cells.new ≡ take at cells.old
-        ++ list_text shown.now.context.now shown.now.inst.now shown.now.entry.now (lists_of shown.now.parts.now)
+        ++ list_text shown.now.context.now shown.now.inst.now shown.now.entry.now (parts_in shown.now)
         operands.now }
     ensures short { result ≤ at + 212 }
 {
     match operands {
         [] => at,
-        [first] => put_operand(cells, at, shown, shown.inst.slot(0), first),
-        [first, second] => {
+        [first, others @ ..] => {
             let at = put_operand(cells, at, shown, shown.inst.slot(0), first);
-            put_second(cells, at, shown, second)
-        }
-        [first, second, others @ ..] => {
-            let at = put_operand(cells, at, shown, shown.inst.slot(0), first);
-            let at = put_second(cells, at, shown, second);
-            put_after_second(cells, at, shown, others)
+            put_after_first(cells, at, shown, others)
         }
     }
 }
@@ -182,9 +195,10 @@ fn put_list(cells: &mut [u8], at: usize, shown: &Shown, operands: &[Operand]) ->
 /// Writes all operands as the decoder answers them.
 #[inline(always)]
 fn put_all(cells: &mut [u8], at: usize, shown: &Shown) -> usize
-    requires { at + 276 ≤ length cells.old }
+    requires read { IsRead shown.now }
+    requires room { at + 276 ≤ length cells.old }
     ensures text { take result cells.new ≡ take at cells.old
-        ++ list_text shown.now.context.now shown.now.inst.now shown.now.entry.now (lists_of shown.now.parts.now)
+        ++ list_text shown.now.context.now shown.now.inst.now shown.now.entry.now (parts_in shown.now)
         (operands_of shown.now.inst.now) }
     ensures short { result ≤ at + 212 }
 {
@@ -202,21 +216,24 @@ fn first_operands(operands: &[Operand], count: usize) -> &[Operand]
     }
 }
 
-/// Writes so many operands, or all where there are fewer.
+/// Writes so many operands, or all where there are fewer. Few instructions need it, so it is no second caller of
+/// `put_list`, which then is inlined.
 #[inline(never)]
 pub fn put_first_operands(cells: &mut [u8], at: usize, shown: &Shown, count: u8) -> usize
-    requires { at + 276 ≤ length cells.old }
+    requires read { IsRead shown.now }
+    requires room { at + 276 ≤ length cells.old }
     ensures text { take result cells.new ≡ take at cells.old
-        ++ first_text shown.now.context.now shown.now.inst.now shown.now.entry.now (lists_of shown.now.parts.now)
+        ++ first_text shown.now.context.now shown.now.inst.now shown.now.entry.now (parts_in shown.now)
         count }
     ensures short { result ≤ at + 212 }
 {
-    put_list(
-        cells,
-        at,
-        shown,
-        first_operands(shown.inst.operands(), count as usize),
-    )
+    match first_operands(shown.inst.operands(), count as usize) {
+        [] => at,
+        [first, others @ ..] => {
+            let at = put_operand(cells, at, shown, shown.inst.slot(0), first);
+            put_others(cells, at, shown, 1, others)
+        }
+    }
 }
 
 /// Writes the address that a relative branch leads to.
@@ -266,9 +283,10 @@ fn is_target_alone(shown: &Shown) -> bool
 /// Writes operands that are neither.
 #[inline(never)]
 fn put_unlisted(cells: &mut [u8], at: usize, shown: &Shown) -> usize
-    requires { at + 276 ≤ length cells.old }
+    requires read { IsRead shown.now }
+    requires room { at + 276 ≤ length cells.old }
     ensures text { take result cells.new ≡ take at cells.old
-        ++ unlisted_text shown.now.context.now shown.now.inst.now shown.now.entry.now (lists_of shown.now.parts.now) }
+        ++ unlisted_text shown.now.context.now shown.now.inst.now shown.now.entry.now (parts_in shown.now) }
     ensures short { result ≤ at + 250 }
 {
     match shown.entry.shape_letter() {
@@ -280,18 +298,19 @@ fn put_unlisted(cells: &mut [u8], at: usize, shown: &Shown) -> usize
 /// Calls `put_unlisted` with copies, so that what the caller shows needs no memory.
 #[inline(always)]
 fn put_apart(cells: &mut [u8], at: usize, shown: &Shown) -> usize
-    requires { at + 276 ≤ length cells.old }
+    requires read { IsRead shown.now }
+    requires room { at + 276 ≤ length cells.old }
     ensures text { take result cells.new ≡ take at cells.old
-        ++ unlisted_text shown.now.context.now shown.now.inst.now shown.now.entry.now (lists_of shown.now.parts.now) }
+        ++ unlisted_text shown.now.context.now shown.now.inst.now shown.now.entry.now (parts_in shown.now) }
     ensures short { result ≤ at + 250 }
 {
     let context = *shown.context;
-    let parts = *shown.parts;
     let shown = Shown {
         context: &context,
+        decoder: shown.decoder,
         inst: shown.inst,
+        bytes: shown.bytes,
         entry: shown.entry,
-        parts: &parts,
     };
     put_unlisted(cells, at, &shown)
 }
@@ -300,16 +319,17 @@ fn put_apart(cells: &mut [u8], at: usize, shown: &Shown) -> usize
 #[inline(always)]
 #[tactic(auto, unfolding(crate::specs::Text::Operands::listed_operands))]
 pub fn put_operands(cells: &mut [u8], at: usize, shown: &Shown, next: u64) -> usize
-    requires { at + 276 ≤ length cells.old }
+    requires read { IsRead shown.now }
+    requires room { at + 276 ≤ length cells.old }
     ensures text { take result cells.new ≡ take at cells.old
-        ++ listed_operands shown.now.context.now shown.now.inst.now shown.now.entry.now (lists_of shown.now.parts.now)
+        ++ listed_operands shown.now.context.now shown.now.inst.now shown.now.entry.now (parts_in shown.now)
         next }
     ensures short { result ≤ at + 250 }
 {
     if is_as_answered(shown) {
         put_all(cells, at, shown)
     } else if is_target_alone(shown) {
-        put_target(cells, at, next, shown.parts.immediate)
+        put_target(cells, at, next, immediate_in(shown))
     } else {
         put_apart(cells, at, shown)
     }

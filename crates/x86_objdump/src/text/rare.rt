@@ -1,15 +1,16 @@
 //! Operands that aren't written as the decoder answers them.
 
 ghost use Rattle.std.specs.Prelude.{◌≡◌, ◌+◌, ◌<◌, ◌≤◌, ◌++◌, drop, length, take};
-ghost use Rattle.x86_fields.specs.Parts.{lists_of};
 ghost use Rattle.x86_objdump.specs.Text.Operands.{table_text, two_numbers, exchange_text, rm_register, offset_address, offset_accumulator, offset_text, segment_move_text, x87_register, two_registers, x87_registers, x87_text, hint_text, field_text, without_named, last_text, rare_text};
+ghost use Rattle.x86_objdump.specs.Text.Shown.{IsRead, parts_in};
 
 use crate::text::context::Context;
 use crate::text::memory::put_segment;
 use crate::text::names::is_in_name;
 use crate::text::numbers::plain_number;
-use crate::text::operands::{Shown, put_first_operands, put_operand_at};
+use crate::text::operands::{put_first_operands, put_operand_at};
 use crate::text::registers::put_register_of;
+use crate::text::shown::{Shown, immediate_in};
 use crate::text::strings::put_string;
 use x86_fields::extend;
 use x86_operands::Operand;
@@ -70,13 +71,14 @@ fn put_rm_register(cells: &mut [u8], at: usize, class: RegisterClass, context: &
 }
 
 fn put_offset_address(cells: &mut [u8], at: usize, shown: &Shown) -> usize
-    requires { at + 24 ≤ length cells.old }
+    requires read { IsRead shown.now }
+    requires room { at + 24 ≤ length cells.old }
     ensures text { take result cells.new ≡
-        take at cells.old ++ offset_address shown.now.context.now (lists_of shown.now.parts.now) }
+        take at cells.old ++ offset_address shown.now.context.now (parts_in shown.now) }
     ensures short { result ≤ at + 21 }
 {
     let at = put_segment(cells, at, shown.context, b"ds: ", 3);
-    put_prefixed(cells, at, plain_number(shown.parts.immediate))
+    put_prefixed(cells, at, plain_number(immediate_in(shown)))
 }
 
 fn put_offset_accumulator(cells: &mut [u8], at: usize, context: &Context) -> usize
@@ -93,9 +95,10 @@ fn put_offset_accumulator(cells: &mut [u8], at: usize, context: &Context) -> usi
 
 /// Writes the operands of MOV between the accumulator and an absolute address.
 fn put_offset(cells: &mut [u8], at: usize, shown: &Shown) -> usize
-    requires { at + 48 ≤ length cells.old }
+    requires read { IsRead shown.now }
+    requires room { at + 48 ≤ length cells.old }
     ensures text { take result cells.new ≡
-        take at cells.old ++ offset_text shown.now.context.now (lists_of shown.now.parts.now) }
+        take at cells.old ++ offset_text shown.now.context.now (parts_in shown.now) }
     ensures short { result ≤ at + 28 }
 {
     if shown.context.opcode < 0xa2 {
@@ -111,10 +114,11 @@ fn put_offset(cells: &mut [u8], at: usize, shown: &Shown) -> usize
 
 /// Writes the operands of MOV between a segment register and a general one.
 fn put_segment_move(cells: &mut [u8], at: usize, shown: &Shown) -> usize
-    requires { at + 96 ≤ length cells.old }
+    requires read { IsRead shown.now }
+    requires room { at + 96 ≤ length cells.old }
     ensures text { take result cells.new ≡ take at cells.old
         ++ segment_move_text shown.now.context.now shown.now.inst.now shown.now.entry.now
-        (lists_of shown.now.parts.now) }
+        (parts_in shown.now) }
     ensures short { result ≤ at + 59 }
 {
     let class = shown.context.prefixes.v_class();
@@ -141,10 +145,11 @@ fn put_x87_register(cells: &mut [u8], at: usize, operand: &Operand) -> usize
 }
 
 fn put_two_registers(cells: &mut [u8], at: usize, shown: &Shown) -> usize
-    requires { at + 16 ≤ length cells.old }
+    requires read { IsRead shown.now }
+    requires room { at + 16 ≤ length cells.old }
     ensures text { take result cells.new ≡ take at cells.old
         ++ two_registers shown.now.context.now shown.now.inst.now shown.now.entry.now
-        (lists_of shown.now.parts.now) }
+        (parts_in shown.now) }
     ensures short { result ≤ at + 9 }
 {
     if matches!(shown.context.opcode, 0xdc | 0xde) {
@@ -159,10 +164,11 @@ fn put_two_registers(cells: &mut [u8], at: usize, shown: &Shown) -> usize
 }
 
 fn put_x87_registers(cells: &mut [u8], at: usize, shown: &Shown) -> usize
-    requires { at + 16 ≤ length cells.old }
+    requires read { IsRead shown.now }
+    requires room { at + 16 ≤ length cells.old }
     ensures text { take result cells.new ≡ take at cells.old
         ++ x87_registers shown.now.context.now shown.now.inst.now shown.now.entry.now
-        (lists_of shown.now.parts.now) }
+        (parts_in shown.now) }
     ensures short { result ≤ at + 9 }
 {
     if shown.inst.operand_count() < 2 {
@@ -176,9 +182,10 @@ fn put_x87_registers(cells: &mut [u8], at: usize, shown: &Shown) -> usize
 }
 
 fn put_x87(cells: &mut [u8], at: usize, shown: &Shown) -> usize
-    requires { at + 64 ≤ length cells.old }
+    requires read { IsRead shown.now }
+    requires room { at + 64 ≤ length cells.old }
     ensures text { take result cells.new ≡ take at cells.old
-        ++ x87_text shown.now.context.now shown.now.inst.now shown.now.entry.now (lists_of shown.now.parts.now) }
+        ++ x87_text shown.now.context.now shown.now.inst.now shown.now.entry.now (parts_in shown.now) }
     ensures short { result ≤ at + 52 }
 {
     if !shown.context.modrm.is_memory() {
@@ -192,9 +199,10 @@ fn put_x87(cells: &mut [u8], at: usize, shown: &Shown) -> usize
 }
 
 fn put_hint(cells: &mut [u8], at: usize, shown: &Shown) -> usize
-    requires { at + 276 ≤ length cells.old }
+    requires read { IsRead shown.now }
+    requires room { at + 276 ≤ length cells.old }
     ensures text { take result cells.new ≡ take at cells.old
-        ++ hint_text shown.now.context.now shown.now.inst.now shown.now.entry.now (lists_of shown.now.parts.now) }
+        ++ hint_text shown.now.context.now shown.now.inst.now shown.now.entry.now (parts_in shown.now) }
     ensures short { result ≤ at + 212 }
 {
     if !shown.context.has_modrm {
@@ -208,12 +216,13 @@ fn put_hint(cells: &mut [u8], at: usize, shown: &Shown) -> usize
 }
 
 fn put_fields(cells: &mut [u8], at: usize, shown: &Shown) -> usize
-    requires { at + 276 ≤ length cells.old }
+    requires read { IsRead shown.now }
+    requires room { at + 276 ≤ length cells.old }
     ensures text { take result cells.new ≡ take at cells.old
-        ++ field_text shown.now.context.now shown.now.inst.now shown.now.entry.now (lists_of shown.now.parts.now) }
+        ++ field_text shown.now.context.now shown.now.inst.now shown.now.entry.now (parts_in shown.now) }
     ensures short { result ≤ at + 250 }
 {
-    match shown.parts.immediate {
+    match immediate_in(shown) {
         [] => put_first_operands(cells, at, shown, 4),
         bytes => {
             let count = shown.inst.operand_count().saturating_sub(2);
@@ -225,13 +234,14 @@ fn put_fields(cells: &mut [u8], at: usize, shown: &Shown) -> usize
 }
 
 fn put_without_named(cells: &mut [u8], at: usize, shown: &Shown) -> usize
-    requires { at + 276 ≤ length cells.old }
+    requires read { IsRead shown.now }
+    requires room { at + 276 ≤ length cells.old }
     ensures text { take result cells.new ≡ take at cells.old
         ++ without_named shown.now.context.now shown.now.inst.now shown.now.entry.now
-        (lists_of shown.now.parts.now) }
+        (parts_in shown.now) }
     ensures short { result ≤ at + 212 }
 {
-    if is_in_name(shown.entry.name_letter(), shown.parts.immediate) {
+    if is_in_name(shown.entry.name_letter(), immediate_in(shown)) {
         let count = shown.inst.operand_count().saturating_sub(1);
         put_first_operands(cells, at, shown, count)
     } else {
@@ -242,9 +252,10 @@ fn put_without_named(cells: &mut [u8], at: usize, shown: &Shown) -> usize
 /// Writes operands of which the last isn't as the decoder answers it.
 #[tactic(auto, unfolding(crate::specs::Text::Operands::last_text))]
 fn put_last(cells: &mut [u8], at: usize, shown: &Shown) -> usize
-    requires { at + 276 ≤ length cells.old }
+    requires read { IsRead shown.now }
+    requires room { at + 276 ≤ length cells.old }
     ensures text { take result cells.new ≡ take at cells.old
-        ++ last_text shown.now.context.now shown.now.inst.now shown.now.entry.now (lists_of shown.now.parts.now) }
+        ++ last_text shown.now.context.now shown.now.inst.now shown.now.entry.now (parts_in shown.now) }
     ensures short { result ≤ at + 250 }
 {
     match shown.entry.shape_letter() {
@@ -262,15 +273,16 @@ fn put_last(cells: &mut [u8], at: usize, shown: &Shown) -> usize
 /// Writes the operands of the instructions that have a shape of their own.
 #[inline(never)]
 pub fn put_rarely(cells: &mut [u8], at: usize, shown: &Shown) -> usize
-    requires { at + 276 ≤ length cells.old }
+    requires read { IsRead shown.now }
+    requires room { at + 276 ≤ length cells.old }
     ensures text { take result cells.new ≡ take at cells.old
-        ++ rare_text shown.now.context.now shown.now.inst.now shown.now.entry.now (lists_of shown.now.parts.now) }
+        ++ rare_text shown.now.context.now shown.now.inst.now shown.now.entry.now (parts_in shown.now) }
     ensures short { result ≤ at + 250 }
 {
     match shown.entry.shape_letter() {
         b's' => put_string(cells, at, shown.context, shown.inst),
         b'x' => put_table(cells, at, shown.context),
-        b'e' => put_two_numbers(cells, at, 2, shown.parts.immediate),
+        b'e' => put_two_numbers(cells, at, 2, immediate_in(shown)),
         b'f' | b'l' | b't' => put_x87(cells, at, shown),
         b'w' if shown.context.modrm.is_memory() => put_operand_at(cells, at, shown, 0),
         b'w' => put_bytes(cells, at, b"ax"),
