@@ -46,8 +46,10 @@ WHEN = {
     "RexR": (("R",), ()),
     "Register0": (("register 0",), ()),
 }
-KINDS = ("read", "changing", "suffixed", "refusing")
-# the words for a form whose rows are one that is read, and one that is refused after a byte where there is another
+KINDS = ("read", "changing", "suffixed", "refusal")
+# what a row takes before it is refused: nothing, or SIB and displacement
+TAKES = {"AtModRM": "Zero", "AfterAddress": ["One", "M"]}
+# the words for a form whose rows are one that is read, and one that is refused elsewhere, with what that one takes
 WHOLE = {
     "without_modrm": ("bare", None),
     "with_modrm": ("both", None),
@@ -74,7 +76,7 @@ class Row:
     names: object = None  # of a row that is read, unless a last byte names its operation
     sizes: tuple = None  # of a row that isn't refused
     change: str = None  # of the answer's prefixes
-    error: str = None  # of a row that is refused: the fault and its moment
+    error: str = None  # of a row that is refused
 
     def marks(self):
         """The marks that the row needs, and those that it is without."""
@@ -154,14 +156,12 @@ def row(text, words):
     change = words.pop(0) if kind == "changing" else None
     if kind == "otherwise":
         kind, words = "refusal", ["both", "Always", *words]
-    if kind == "refusal":
-        kind, words = "refusing", [*words[:2], "Zero", *words[2:]]
     at, when, *rest = words
     if kind not in KINDS or (when not in WHEN if isinstance(when, str) else when[0] != "Opcode"):
         raise ValueError
-    if kind == "refusing":
-        operands, fault, moment = rest
-        return Row(text, *where(at), when, operands, error=f"{fault} {moment}")
+    if kind == "refusal":
+        fault, operands = rest
+        return Row(text, *where(at), when, TAKES[operands] if isinstance(operands, str) else operands, error=fault)
     names, operands, sized = [None, *rest] if kind == "suffixed" else rest
     return Row(text, *where(at), when, operands, names, sizes(sized), change)
 
@@ -178,10 +178,10 @@ def rows_in(text):
             if words[0] not in WHOLE:
                 yield row(line.strip(), words)
                 continue
-            at, moment = WHOLE[words[0]]
+            at, takes = WHOLE[words[0]]
             yield row(line.strip(), ["read", at, "Always", "Own", *words[1:]])
-            if moment:
-                yield row(line.strip(), ["refusing", "both", "Always", words[1], "BadOperand", moment])
+            if takes:
+                yield row(line.strip(), ["otherwise", "BadOperand", takes])
         except (KeyError, IndexError, ValueError):
             sys.exit(f"tables.py: not read: {line.strip()}")
 

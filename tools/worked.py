@@ -62,7 +62,7 @@ def found(encoding, maps):
 
 def judges(answer, each):
     """Whether an answer is that of a row: an instruction where it is read, and its error where it is refused."""
-    return answer.endswith(ERRORS[each.error.split()[0]]) if each.error else bool(ACCEPTED.match(answer))
+    return answer.endswith(ERRORS[each.error]) if each.error else bool(ACCEPTED.match(answer))
 
 
 def reached(rows, form, modrm, marks, answer):

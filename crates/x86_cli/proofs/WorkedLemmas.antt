@@ -26,7 +26,8 @@ use Rattle.x86_operands.specs.declared.plans.ModrmUse.TheVariants.{EitherForm}
 use Rattle.x86_operands.specs.Asks.{immediate_width}
 use Rattle.x86_operands.specs.Forms.{form_plan, form_record, modrm_use}
 use Rattle.x86_operands.specs.Rows.{form_rows}
-use Rattle.x86_operands.specs.Pieces.{SpellsOperands, SpellsMemory, operand_from, past_opcode, at_modrm}
+use Rattle.x86_operands.specs.Pieces.{SpellsOperands, SpellsMemory, operand_from, past_opcode}
+use Rattle.x86_groups.proofs.AddressLemmas.{refuses_at_once}
 use Rattle.x86_operands.specs.Plans.{plan_encodings}
 use Rattle.x86_operands.specs.PlanSteps.{four_of, reading_from}
 use Rattle.x86_operands.specs.Operands.{shape}
@@ -87,7 +88,7 @@ module _ (strict : Bool) (run : List ℕ) (in_map : Map) (opcode : ℕ) (row : T
       let s = run ++ (escape_bytes in_map ++ opcode ∷ m ∷ (sib ++ displacement)) in
       is_run run ≡ true → is_opcode in_map opcode ≡ true → printed_row in_map (column_of (reading_of run)) opcode ≡ Some row →
       r.at_opcode ≡ None → r.modrm ≡ EitherForm →
-      plan.verdict ≡ Accepts → total (map immediate_width (plan_encodings plan)) ≡ 0 → SpellsMemory p m (sib ++ displacement) memory →
+      plan.verdict ≡ Accepts → total (map immediate_width (plan_encodings plan)) ≡ 0 → SpellsMemory plan.order.rm p m (sib ++ displacement) memory →
       length sib ≡ sib_width m →
       reading ≡ reading_from plan p plan.opcode (four_of (pairs_of (plan_encodings plan) p m memory)) → allows_lock reading ≡ lawful → length s ≤ 15 →
       Encodes printed_row strict lawful s (instruction_of reading (part_ends parts_at) (length s))
@@ -228,7 +229,7 @@ module _ (strict : Bool) where
   pub no_memory_errs : Errs (0x8d ∷ 0xc0 ∷ []) InvalidOperand
   unfolding form_record form_plan form_rows modrm_use printed_row
   no_memory_errs = by_bytes (case_3 [] One 0x8d (record { opcode = LEA; form = Gv_M }) (0xc0 ∷ []) _ BadOperand refl refl refl refl refl
-      (past_opcode (0xc0 ∷ []) [] refl refl refl (at_modrm refl refl)))
+      (past_opcode (0xc0 ∷ []) [] refl refl refl (refuses_at_once _ _ _ _ refl refl refl)))
 
   -- the run f0, no escape, the opcode byte 01 and its row, ModRM d8, and nothing after it: F0 before an operation that takes it, whose first slot is a register
   pub forbidden_lock_errs : Errs (0xf0 ∷ 0x01 ∷ 0xd8 ∷ []) InvalidPrefixes

@@ -60,7 +60,7 @@ module _ (rows : Rows) (strict : Bool) where
     pub has_plan : plan ≡ made.plan modrm
     pub accepted : is_refusal plan.verdict ≡ false
     pub memory : Option Raw
-    pub address_spelled : SpellsMemory seen modrm (parts.sib ++ parts.displacement) memory
+    pub address_spelled : SpellsMemory plan.order.rm seen modrm (parts.sib ++ parts.displacement) memory
     pub sib_length : length parts.sib ≡ sib_width modrm
     pub operands : List (Slot × Operand)
     pub immediates_spelled : SpellsOperands (plan_encodings plan) seen modrm memory parts.immediate operands

@@ -11,6 +11,7 @@ use Rattle.x86_fields.specs.declared.raw.Raw.{Raw}
 use Rattle.x86_fields.specs.Raw.{displacement_width}
 use Rattle.x86_fields.specs.Pieces.{signed_by, option_bytes, SpellsRaw}
 use Rattle.x86_operands.specs.Pieces.{SpellsMemory}
+use Rattle.x86_operands.specs.declared.order.Position.{Position}
 
 -- bytes, one after another
 abbrev pub Bytes : List ℕ → Type 0
@@ -45,9 +46,9 @@ disp_fits width l h = cond_both (width == 1) (cast_signed w8 (from_le_bytes w8 l
     (λ _. cond_both (width == 4) (cast_signed w32 (from_le_bytes w32 l)) (pos 0) (λ k. FitsSigned w32 k)
     (λ _. fits w32 (from_le_bytes w32 l) (omega (arith, at l h 0, at l h 1, at l h 2, at l h 3))) (λ _. record { sfits = omega arith }))
 
-pub memory_fits : (p : Prefixes) (m : ℕ) (bytes : List ℕ) (memory : Option Raw) (raw : Raw) → SpellsMemory p m bytes memory →
+pub memory_fits : (at : Position) (p : Prefixes) (m : ℕ) (bytes : List ℕ) (memory : Option Raw) (raw : Raw) → SpellsMemory at p m bytes memory →
     memory ≡ Some raw → Bytes bytes → FitsSigned w32 raw.disp
-memory_fits p m bytes memory raw h e b =
-    let r : SpellsRaw p m bytes raw = (subst (SpellsMemory p m bytes) e h).1 in
+memory_fits at p m bytes memory raw h e b =
+    let r : SpellsRaw p m bytes raw = (subst (SpellsMemory at p m bytes) e h).1 in
     subst (λ x. FitsSigned w32 x) (sym (ap (λ x. x.disp) r.fields))
     (disp_fits (displacement_width m r.sib) r.disp (bytes_after (option_bytes r.sib) r.disp (subst Bytes r.spelled b)))

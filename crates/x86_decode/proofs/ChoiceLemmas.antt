@@ -23,8 +23,9 @@ use Rattle.x86_fields.specs.ModRM.{is_memory}
 use Rattle.x86_operands.specs.PlanSteps.{read_plan, filled_step, operands_step, read_modrm, refuse_fault, four_of, reading_from}
 use Rattle.x86_operands.specs.Places.{Placed, place_of, plan_places, plan_placed, record_placed}
 use Rattle.x86_operands.specs.Forms.{form_record}
-use Rattle.x86_operands.specs.Pieces.{SpellsTail, at_modrm, SpellsRow, past_opcode, modrm_width}
+use Rattle.x86_operands.specs.Pieces.{SpellsTail, SpellsRow, past_opcode, modrm_width}
 use Rattle.x86_operands.specs.Asks.{modrm_of}
+use Rattle.x86_groups.proofs.AddressLemmas.{refuses_at_once}
 use Rattle.x86_groups.specs.Groups.{IsFenceWithRm, group_fault, group_modrm, group_plan, group_record, operandless, bad_operand}
 use Rattle.x86_decode.specs.declared.instructions.Instruction.{Instruction}
 use Rattle.x86_decode.specs.Head.{Rows, column_of, escape_bytes, clears, seen_by}
@@ -71,7 +72,7 @@ module _ (same_elsewhere : (row : TableRow) (p : Prefixes) (m : ℕ) → (group_
       (λ m z. elim (same_elsewhere row p m) [
         | inl e ↦ same (ap (λ plan. plan_placed n plan p m z) e)
         | inr h ↦ differ (fence_reading h.opcode p, plan_places (operandless h.opcode p) p m z n)
-            (ap (λ plan. (plan_placed n plan p m z).answer) (fence_by_default row p m h) ∙ rw h.register refl)
+            (ap (λ plan. (plan_placed n plan p m z).answer) (fence_by_default row p m h))
             (ap (λ plan. (plan_placed n plan p m z).answer) (fence_strictly row p m h))
       ]))
   compared_row false n row p s = same refl
@@ -87,7 +88,7 @@ module _ (same_elsewhere : (row : TableRow) (p : Prefixes) (m : ℕ) → (group_
       suffix = [];
       operand_pairs = [];
       spelled = refl;
-      address_spelled = (register, refl);
+      address_spelled = (refl, refl);
       immediates_spelled = (refl, refl);
       suffix_length = refl;
     };
@@ -244,7 +245,8 @@ module _ (same_elsewhere : (row : TableRow) (p : Prefixes) (m : ℕ) → (group_
               in_map = is.in_map;
               has_row = is.has_row;
               refuses = rw (ap is_group h.group) (past_opcode (is.modrm ∷ []) [] (ap (λ f. group_fault f p) h.group)
-                  refl (rw (ap group_modrm h.group) refl) (rw (ap group_modrm h.group, fence_strictly is.row p is.modrm h) (at_modrm refl refl)));
+                  refl (rw (ap group_modrm h.group) refl) (rw (ap group_modrm h.group, fence_strictly is.row p is.modrm h)
+                  (refuses_at_once (bad_operand p) p is.modrm BadOperand refl refl refl)));
             })).takes _ first after_fence))
             (λ n. refl)
 

@@ -15,11 +15,10 @@ use Rattle.x86_forms.specs.declared.TableRow.{TableRow}
 use Rattle.x86_forms.specs.Groups.{is_group}
 use Rattle.x86_forms.specs.Words.{rows_of, packed}
 use Rattle.x86_operands.specs.declared.plans.Fault.TheVariants.{Incomplete}
-use Rattle.x86_operands.specs.declared.plans.Moment.{Moment}
 use Rattle.x86_operands.specs.declared.plans.Verdict.TheVariants.{Refuses}
 use Rattle.x86_operands.specs.Forms.{form_record}
 use Rattle.x86_operands.specs.Asks.{modrm_of}
-use Rattle.x86_operands.specs.Pieces.{at_modrm, after_address, after_suffix, no_name, RefusesRow, at_opcode, past_opcode}
+use Rattle.x86_operands.specs.Pieces.{after_pieces, no_name, RefusesRow, at_opcode, past_opcode}
 use Rattle.x86_groups.specs.Groups.{group_record, record_of}
 use Rattle.x86_decode.specs.declared.instructions.Instruction.{Instruction}
 use Rattle.x86_decode.specs.Head.{Rows, column_of, seen_by}
@@ -83,26 +82,24 @@ printed_at printed m column byte row e = rw (sym (printed m column byte) ∙ e) 
 
 -- ---- records that are left out, by the laws on what is built
 
-module _ (plain : (row : TableRow) (p : Prefixes) (m : ℕ) (w : Moment) → is_group row.form ≡ false →
-    ((form_record row p).plan m).verdict ≢ Refuses Incomplete w)
+module _ (plain : (row : TableRow) (p : Prefixes) (m : ℕ) → is_group row.form ≡ false →
+    ((form_record row p).plan m).verdict ≢ Refuses Incomplete)
     (passes : (row : TableRow) (p : Prefixes) → (form_record row p).at_opcode ≡ None)
     (group_passes : (strict : Bool) (row : TableRow) (p : Prefixes) → (group_record strict row p).at_opcode ≢ Some Incomplete)
-    (group : (strict : Bool) (row : TableRow) (p : Prefixes) (m : ℕ) (w : Moment) → is_group row.form ≡ true →
-    ((group_record strict row p).plan m).verdict ≡ Refuses Incomplete w → row.form ≡ form.ModRM_0x8f) where
-  gap_of_8f : (strict : Bool) (row : TableRow) (p : Prefixes) (m : ℕ) (w : Moment) →
-      ((record_of strict row p).plan m).verdict ≡ Refuses Incomplete w → row.form ≡ form.ModRM_0x8f
-  gap_of_8f strict row p m w = cond_both (is_group row.form) (group_record strict row p) (form_record row p)
-      (λ r. (r.plan m).verdict ≡ Refuses Incomplete w → row.form ≡ form.ModRM_0x8f)
-      (λ is. group strict row p m w is) (λ is e. absurd (plain row p m w is e))
+    (group : (strict : Bool) (row : TableRow) (p : Prefixes) (m : ℕ) → is_group row.form ≡ true →
+    ((group_record strict row p).plan m).verdict ≡ Refuses Incomplete → row.form ≡ form.ModRM_0x8f) where
+  gap_of_8f : (strict : Bool) (row : TableRow) (p : Prefixes) (m : ℕ) →
+      ((record_of strict row p).plan m).verdict ≡ Refuses Incomplete → row.form ≡ form.ModRM_0x8f
+  gap_of_8f strict row p m = cond_both (is_group row.form) (group_record strict row p) (form_record row p)
+      (λ r. (r.plan m).verdict ≡ Refuses Incomplete → row.form ≡ form.ModRM_0x8f)
+      (λ is. group strict row p m is) (λ is e. absurd (plain row p m is e))
 
   row_of_8f : (strict : Bool) (row : TableRow) (p : Prefixes) (bytes : List ℕ) → RefusesRow (record_of strict row p) p bytes Incomplete →
       row.form ≡ form.ModRM_0x8f
   row_of_8f strict row p bytes (at_opcode e _) = absurd
       (cond_both (is_group row.form) (group_record strict row p) (form_record row p) (λ r. r.at_opcode ≢ Some Incomplete)
       (λ _. group_passes strict row p) (λ _ e. let none = passes row p in cc) e)
-  row_of_8f strict row p bytes (past_opcode _ _ _ _ _ (at_modrm e _)) = gap_of_8f strict row p _ _ e
-  row_of_8f strict row p bytes (past_opcode _ _ _ _ _ (after_address _ e _)) = gap_of_8f strict row p _ _ e
-  row_of_8f strict row p bytes (past_opcode _ _ _ _ _ (after_suffix e _)) = gap_of_8f strict row p _ _ e
+  row_of_8f strict row p bytes (past_opcode _ _ _ _ _ (after_pieces e _)) = gap_of_8f strict row p _ e
   row_of_8f strict row p bytes (past_opcode _ _ _ _ _ (no_name _ _ _ e)) = absurd cc
 
   pub left_out_is_8f : (rows : Rows) (strict : Bool) (q : List ℕ) (c : IsRefusedByRecord rows strict q Incomplete) → c.row.form ≡ form.ModRM_0x8f

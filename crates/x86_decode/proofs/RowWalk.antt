@@ -44,12 +44,12 @@ no_suffix t n o p m = refl
 -- what was read by a template
 pub read_placed : (result : Result (Unit {0}) DecodeError) (reading : Reading) (n a : ℕ) (suffix : Bool) (planned plan : Plan)
     (p : Prefixes) (m : ℕ) (s t : State ℕ) → planned ≡ plan → outcome (value_if_ok result reading) t ≡ read_plan planned p m s →
-    OnOk result (a ≡ place_after_address p m s) → suffix ≡ uses_suffix planned.verdict →
+    OnOk result (a ≡ place_after_address planned.order.rm p m s) → suffix ≡ uses_suffix planned.verdict →
     outcome (value_if_ok result (reading, record { opcode_end = n; address_end = a; has_suffix = suffix })) t ≡ plan_placed n plan p m s
 read_placed (Ok x) reading n a suffix planned plan p m s t same read address none =
     plan_is_placed (Ok x) reading (record { opcode_end = n; address_end = a; has_suffix = suffix }) n plan p m s t (read ∙ ap (λ k. read_plan k p m s) same)
     (let is : ◌≡◌ {A = Places} (record { opcode_end = n; address_end = a; has_suffix = suffix }) (plan_places plan p m s n) =
-    rw (address, none ∙ ap (λ k. uses_suffix k.verdict) same) refl in is)
+    rw (address ∙ ap (λ k. place_after_address k.order.rm p m s) same, none ∙ ap (λ k. uses_suffix k.verdict) same) refl in is)
 read_placed (Err e) reading n a suffix planned plan p m s t same read address none =
     plan_is_placed (Err e) reading (record { opcode_end = n; address_end = a; has_suffix = suffix }) n plan p m s t (read ∙ ap (λ k. read_plan k p m s) same) tt
 

@@ -57,7 +57,7 @@ module _ (shapes : (r : RowRecord) (p : Prefixes) (bytes : List ℕ) (reading : 
       -- the bytes of SIB and displacement
       let after_run = bytes_after w.run (escape_bytes w.map ++ w.opcode ∷ w.tail) (subst Bytes w.spelled (bytes_of s bytes)) in
       let past_opcode : Bytes r.tail = bytes_after r.modrm r.tail (subst Bytes r.spelled (bytes_after (escape_bytes w.map) (w.opcode ∷ w.tail) after_run).1) in
-      let fits : FitsSigned w32 raw.disp = memory_fits p
+      let fits : FitsSigned w32 raw.disp = memory_fits ((record_of strict w.row p).plan (modrm_of (record_of strict w.row p).modrm r.modrm)).order.rm p
       (modrm_of (record_of strict w.row p).modrm r.modrm) q.address q.memory raw q.address_spelled memory
       (bytes_before q.address (q.immediates ++ q.suffix) (subst Bytes q.spelled past_opcode)) in
       -- clearing 66 leaves 67

@@ -1,14 +1,15 @@
 -- What holds of the records of all groups.
-use Rattle.std.proofs.Common.{◌≡◌, ◌≢◌, ◌≤◌, inl, inr, Err, ℕ, ◌==◌, Bool, true, false, not, ◌||◌, Some, refl, sym, subst, ap, ◌∙◌, true≢false, arith}
+use Rattle.std.proofs.Common.{◌≡◌, ◌≢◌, ◌≤◌, inl, inr, Err, ℕ, ◌==◌, Bool, true, false, not, ◌||◌, [], ◌∷◌, Some, refl, sym, subst, ap, ◌∙◌, true≢false, arith}
 use Rattle.x86_arch.specs.Reader.{State}
 use Rattle.x86_fields.specs.declared.errors.DecodeError.TheVariants.{IncompleteDecoder}
-use Rattle.x86_groups.specs.Vocabulary.{Prefixes, Form, TableRow, EitherForm, Incomplete, Moment, AfterAddress, reg_field}
+use Rattle.x86_groups.specs.Vocabulary.{Prefixes, Form, TableRow, EitherForm, Incomplete, reg_field}
 use Rattle.x86_operands.specs.declared.plans.Verdict.TheVariants.{Refuses}
 use Rattle.x86_forms.specs.declared.Form.TheVariants as form
 use Rattle.x86_forms.specs.Groups.{is_group}
 use Rattle.x86_forms.specs.Words.{IsForm}
 use Rattle.x86_operands.specs.Forms.{modrm_use}
-use Rattle.x86_operands.specs.Plans.{Plan}
+use Rattle.x86_operands.specs.Plans.{Plan, plan_encodings}
+use Rattle.x86_operands.specs.Words.{M}
 use Rattle.x86_operands.specs.Rows.{form_rows}
 use Rattle.x86_operands.specs.Asks.{immediates_width}
 use Rattle.x86_operands.specs.PlanSteps.{record_step}
@@ -68,44 +69,46 @@ no_fault strict row p = fault_of row.form p
 
 -- ---- what is left out
 
-waits : (gaps : Bool) (plan : Plan) (w : Moment) → passes gaps plan ≡ true → plan.verdict ≡ Refuses Incomplete w → gaps ≡ true
-waits true plan w h e = refl
-waits false plan w h e = absurd (without_gap plan w h e)
+waits : (gaps : Bool) (plan : Plan) → passes gaps plan ≡ true → plan.verdict ≡ Refuses Incomplete → gaps ≡ true
+waits true plan h e = refl
+waits false plan h e = absurd (without_gap plan h e)
 
 eight_f : (f : Form) → is_8f f ≡ true → f ≡ form.ModRM_0x8f
 eight_f form.ModRM_0x8f h = refl
 eight_f _ h = absurd (true≢false (sym h))
 
-pub gap_form : (strict : Bool) (row : TableRow) (p : Prefixes) (m : ℕ) (w : Moment) → is_group row.form ≡ true →
-    ((group_record strict row p).plan m).verdict ≡ Refuses Incomplete w → row.form ≡ form.ModRM_0x8f
+pub gap_form : (strict : Bool) (row : TableRow) (p : Prefixes) (m : ℕ) → is_group row.form ≡ true →
+    ((group_record strict row p).plan m).verdict ≡ Refuses Incomplete → row.form ≡ form.ModRM_0x8f
 unfolding group_record
-gap_form strict row p m w group e =
-    let h : (not (is_group row.form) || is_8f row.form) ≡ true = waits (may_have_gap row.form) (group_plan row p m strict) w (group_passes row strict p m) e in
+gap_form strict row p m group e =
+    let h : (not (is_group row.form) || is_8f row.form) ≡ true = waits (may_have_gap row.form) (group_plan row p m strict) (group_passes row strict p m) e in
     eight_f row.form (rw group at h)
 
 abbrev is_reg_0 : ℕ → Bool
 is_reg_0 reg = reg == 0
 
-gap_8f : (o : TableRow) (strict : Bool) (p : Prefixes) (m : ℕ) (w : Moment) →
-    (plan_of_row (choose (group_rows form.ModRM_0x8f) o strict p m) o p m).verdict ≡ Refuses Incomplete w → (is_reg_0 (reg_field m) ≡ false)
-    × (w ≡ AfterAddress)
+gap_8f : (o : TableRow) (strict : Bool) (p : Prefixes) (m : ℕ) →
+    (plan_of_row (choose (group_rows form.ModRM_0x8f) o strict p m) o p m).verdict ≡ Refuses Incomplete → (is_reg_0 (reg_field m) ≡ false)
+    × (plan_encodings (plan_of_row (choose (group_rows form.ModRM_0x8f) o strict p m) o p m) ≡ M ∷ [])
 unfolding group_rows
-gap_8f o strict p m w e = (grind arith, grind arith)
+gap_8f o strict p m e = (grind arith, grind arith)
 
-gap_in_8f : (strict : Bool) (row : TableRow) (p : Prefixes) (m : ℕ) (w : Moment) → is_group row.form ≡ true →
-    ((group_record strict row p).plan m).verdict ≡ Refuses Incomplete w → (is_reg_0 (reg_field m) ≡ false) × (w ≡ AfterAddress)
+gap_in_8f : (strict : Bool) (row : TableRow) (p : Prefixes) (m : ℕ) → is_group row.form ≡ true →
+    ((group_record strict row p).plan m).verdict ≡ Refuses Incomplete → (is_reg_0 (reg_field m) ≡ false)
+    × (plan_encodings ((group_record strict row p).plan m) ≡ M ∷ [])
 unfolding group_record group_plan
-gap_in_8f strict row p m w group e =
-    gap_8f row strict p m w (subst (λ f. (plan_of_row (choose (group_rows f) row strict p m) row p m).verdict ≡ Refuses Incomplete w)
-    (gap_form strict row p m w group e) e)
+gap_in_8f strict row p m group e =
+    let is = gap_form strict row p m group e in
+    let found = gap_8f row strict p m (subst (λ f. (plan_of_row (choose (group_rows f) row strict p m) row p m).verdict ≡ Refuses Incomplete) is e) in
+    (found.0, subst (λ f. plan_encodings (plan_of_row (choose (group_rows f) row strict p m) row p m) ≡ M ∷ []) (sym is) found.1)
 
-pub gap_reg : (strict : Bool) (row : TableRow) (p : Prefixes) (m : ℕ) (w : Moment) → is_group row.form ≡ true →
-    ((group_record strict row p).plan m).verdict ≡ Refuses Incomplete w → reg_field m ≢ 0
-gap_reg strict row p m w group e z = absurd (true≢false (sym (ap is_reg_0 z) ∙ (gap_in_8f strict row p m w group e).0))
+pub gap_reg : (strict : Bool) (row : TableRow) (p : Prefixes) (m : ℕ) → is_group row.form ≡ true →
+    ((group_record strict row p).plan m).verdict ≡ Refuses Incomplete → reg_field m ≢ 0
+gap_reg strict row p m group e z = absurd (true≢false (sym (ap is_reg_0 z) ∙ (gap_in_8f strict row p m group e).0))
 
-pub gap_moment : (strict : Bool) (row : TableRow) (p : Prefixes) (m : ℕ) (w : Moment) → is_group row.form ≡ true →
-    ((group_record strict row p).plan m).verdict ≡ Refuses Incomplete w → w ≡ AfterAddress
-gap_moment strict row p m w group e = (gap_in_8f strict row p m w group e).1
+pub gap_address : (strict : Bool) (row : TableRow) (p : Prefixes) (m : ℕ) → is_group row.form ≡ true →
+    ((group_record strict row p).plan m).verdict ≡ Refuses Incomplete → plan_encodings ((group_record strict row p).plan m) ≡ M ∷ []
+gap_address strict row p m group e = (gap_in_8f strict row p m group e).1
 
 -- a row of a group is left out where it is 8F alone
 pub group_left_out : (strict : Bool) (row : TableRow) (p : Prefixes) (s : State ℕ) → is_group row.form ≡ true →
@@ -114,4 +117,4 @@ group_left_out strict row p s group h = by (row_left_out (group_record strict ro
   where
     by : HasGap (group_record strict row p) p → row.form ≡ form.ModRM_0x8f
     by (inl e) = absurd (no_fault strict row p e)
-    by (inr (m, w, e)) = gap_form strict row p m w group e
+    by (inr (m, e)) = gap_form strict row p m group e

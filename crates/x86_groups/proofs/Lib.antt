@@ -4,3 +4,4 @@ pub mod GroupLemmas
 pub mod HeadLemmas
 pub mod CellLemmas
 pub mod KnownLemmas
+pub mod AddressLemmas

@@ -2,11 +2,11 @@
 -- maps has its record. Source: Intel SDM volume 2, appendix A.4.
 use Rattle.std.specs.Prelude.{ℕ, Bool, true, false, not, ◌&&◌, if◌then◌else◌, Option, Some, None, is_some, ◌≡◌, ◌≢◌}
 use Rattle.x86_regs.specs.declared.Segment.{Segment}
-use Rattle.x86_groups.specs.Vocabulary.{Prefixes, Fault, BadOpcode, AtModRM, ModrmUse, EitherForm, Registers, Form, TableRow}
+use Rattle.x86_groups.specs.Vocabulary.{Prefixes, Fault, BadOpcode, BadOperand, Refuses, ModrmUse, EitherForm, Registers, Form, TableRow}
 use Rattle.x86_groups.specs.Vocabulary.{rep, repnz, reg_field, rm_field, is_memory, operand_size}
 use Rattle.x86_fields.specs.Prefixes.{operand_size, address_size, lock, segment, rex}
 use Rattle.x86_forms.specs.Groups.{is_group}
-use Rattle.x86_operands.specs.Plans.{Plan, RowRecord, reads, refused}
+use Rattle.x86_operands.specs.Plans.{Plan, RowRecord, reads}
 use Rattle.x86_operands.specs.Forms.{form_record}
 use Rattle.x86_forms.specs.declared.Form.TheVariants as form
 use Rattle.x86_operands.specs.Columns.{choose, plan_of_row}
@@ -58,7 +58,7 @@ abbrev pub operandless : ℕ → Prefixes → Plan
 operandless opcode p = reads opcode Zero 0 p 0
 
 abbrev pub bad_operand : Prefixes → Plan
-bad_operand p = refused true AtModRM (operandless Invalid p)
+bad_operand p = record (operandless Invalid p) { verdict = Refuses BadOperand }
 
 -- ---- where the choices differ. Source: Intel SDM volume 2, appendix A.4, group 15
 

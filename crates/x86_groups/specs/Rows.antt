@@ -3,7 +3,7 @@
 -- C7 F8, as `yaxpeax-x86` reads them (docs/DIFFERENCES.md). The first row that is there counts. The columns: where
 -- (mem the memory forms of ModRM, reg the register forms, both; at a reg, or at a reg and an rm), the prefixes, the
 -- name or the names of eight regs or rms (`none` where the row isn't), the operands, and the memory size (of the
--- memory form, and of the register form). A row that is refused has the error and the moment after which it comes. Of
+-- memory form, and of the register form). A row that is refused has the error, and what it takes before. Of
 -- x86_operands, specs/Words.antt has the words, specs/Columns.antt what they mean, and specs/PlanSteps.antt what the
 -- letters mean.
 use Rattle.std.specs.Prelude.{List, [], ◌∷◌}
@@ -29,7 +29,7 @@ use Rattle.x86_opcodes.specs.Names.{VERW, VMCALL, VMCLEAR, VMFUNC, VMLAUNCH, VML
 use Rattle.x86_opcodes.specs.Names.{VMXOFF, VMXON, WRFSBASE, WRGSBASE, WRPKRU, XABORT, XBEGIN, XEND, XGETBV, XOR, XRESLDTRK, XRSTOR}
 use Rattle.x86_opcodes.specs.Names.{XRSTORS, XRSTORS64, XSAVE, XSAVEC, XSAVEC64, XSAVEOPT, XSAVES, XSAVES64, XSETBV, XSUSLDTRK, XTEST}
 use Rattle.x86_fields.specs.declared.sizes.Width.TheVariants.{B, W, D, Q, X, V, Vq, Dq}
-use Rattle.x86_groups.specs.Vocabulary.{Form, BadOpcode, BadOperand, Incomplete, AtModRM, AfterAddress, ClearsOperandSize, Own, Name, TemplateRow}
+use Rattle.x86_groups.specs.Vocabulary.{Form, BadOpcode, BadOperand, Incomplete, ClearsOperandSize, Own, Name, TemplateRow}
 use Rattle.x86_forms.specs.declared.Form.TheVariants as form
 use Rattle.x86_operands.specs.declared.plans.OperandEncoding.TheVariants.{E, G, Gmm, Emm, Cr, Dr, I8, U8, Iv, X8, Jv, StRm, RdInReg}
 use Rattle.x86_operands.specs.declared.rows.When.TheVariants.{Always, NoPrefix, NoRepeat, Only66, F2, F3, With66, RexW, RexR}
@@ -37,7 +37,7 @@ use Rattle.x86_operands.specs.Columns.{none}
 use Rattle.x86_operands.specs.Words.{mem, reg, both, mem_at, reg_at, both_at, reg_from, reg_rm, rm_at, strict_rm, by_reg, by_rm, M, U, Umm}
 use Rattle.x86_operands.specs.Words.{Zero, One, Two, Three, Four, Bytes}
 use Rattle.x86_operands.specs.Words.{signed_one, cl, rax, eax, ecx, st0, ecx_in_rm, edx_in_rm, ecx_third, of_vq, of_dq, size, size_v}
-use Rattle.x86_operands.specs.Words.{size_vq, or_v, undecided, read, changing, suffixed, refusal, otherwise}
+use Rattle.x86_operands.specs.Words.{size_vq, or_v, undecided, read, changing, suffixed, refusal, otherwise, AtModRM, AfterAddress}
 
 -- of the groups none is left to the last line, for forms that have no rows
 unfoldable pub group_rows : Form → List TemplateRow

@@ -1,7 +1,7 @@
 //! What holds of the records of all groups, over the definitions alone, and where the default and the strict choice
 //! differ.
 
-ghost use Rattle.std.specs.Prelude.{◌≡◌, ◌≢◌, ◌≤◌, ◌⊎◌, ℕ, Bool, true, false, All, Option, Some, None, Err};
+ghost use Rattle.std.specs.Prelude.{◌≡◌, ◌≢◌, ◌≤◌, ◌⊎◌, ◌∷◌, [], ℕ, Bool, true, false, All, Option, Some, None, Err};
 ghost use Rattle.x86_arch.specs.Reader.{State};
 ghost use Rattle.x86_fields.specs.declared.errors.DecodeError.TheVariants.{IncompleteDecoder};
 ghost use Rattle.x86_fields.specs.declared.prefixes.Prefixes.{Prefixes};
@@ -10,10 +10,9 @@ ghost use Rattle.x86_fields.specs.declared.raw.Raw.{Raw};
 ghost use Rattle.x86_forms.specs.declared.TableRow.{TableRow};
 ghost use Rattle.x86_forms.specs.Groups.{is_group};
 ghost use Rattle.x86_operands.specs.declared.plans.Fault.TheVariants.{Incomplete};
-ghost use Rattle.x86_operands.specs.declared.plans.Moment.{Moment};
-ghost use Rattle.x86_operands.specs.declared.plans.Moment.TheVariants.{AfterAddress};
 ghost use Rattle.x86_operands.specs.declared.plans.Verdict.TheVariants.{Refuses};
 ghost use Rattle.x86_operands.specs.declared.plans.OperandEncoding.TheVariants.{ConstantU8};
+ghost use Rattle.x86_operands.specs.Words.{M};
 ghost use Rattle.x86_operands.specs.Plans.{plan_encodings};
 ghost use Rattle.x86_operands.specs.PlanSteps.{immediate_read, known_operand, record_step};
 ghost use Rattle.x86_groups.specs.Groups.{IsFenceWithRm, group_record, group_plan, operandless, bad_operand, record_of};
@@ -22,22 +21,23 @@ use x86_forms::Form;
 use x86_operands::{Operand, Slot};
 
 /// Every group has a plan, and of the groups only 8F with a reg other than 0 isn't built: no other plan of a record
-/// refuses as `Incomplete`, and no record does so at the opcode byte. So `read_group` answers `IncompleteDecoder` for
+/// refuses as `Incomplete`, and no record does so at the opcode byte. That of 8F takes the address before. So `read_group` answers `IncompleteDecoder` for
 /// 8F alone. Source: Intel SDM volume 2, appendix A.4, group 1A.
-#[tactic(auto, using(crate::proofs::GroupLemmas::no_fault, crate::proofs::GroupLemmas::gap_form, crate::proofs::GroupLemmas::gap_reg, crate::proofs::GroupLemmas::gap_moment, crate::proofs::GroupLemmas::group_left_out))]
+#[tactic(auto, using(crate::proofs::GroupLemmas::no_fault, crate::proofs::GroupLemmas::gap_form, crate::proofs::GroupLemmas::gap_reg, crate::proofs::GroupLemmas::gap_address, crate::proofs::GroupLemmas::group_left_out))]
 pub fn groups_are_built()
     ensures at_opcode { (strict : Bool) (row : TableRow) (p : Prefixes) →
         (group_record strict row p).at_opcode ≢ Some Incomplete }
-    ensures form { (strict : Bool) (row : TableRow) (p : Prefixes) (m : ℕ) (w : Moment) →
+    ensures form { (strict : Bool) (row : TableRow) (p : Prefixes) (m : ℕ) →
         is_group row.form ≡ true →
-        ((group_record strict row p).plan m).verdict ≡ Refuses Incomplete w →
+        ((group_record strict row p).plan m).verdict ≡ Refuses Incomplete →
         row.form ≡ Form.ModRM_0x8f }
-    ensures reg { (strict : Bool) (row : TableRow) (p : Prefixes) (m : ℕ) (w : Moment) →
+    ensures reg { (strict : Bool) (row : TableRow) (p : Prefixes) (m : ℕ) →
         is_group row.form ≡ true →
-        ((group_record strict row p).plan m).verdict ≡ Refuses Incomplete w → reg_field m ≢ 0 }
-    ensures moment { (strict : Bool) (row : TableRow) (p : Prefixes) (m : ℕ) (w : Moment) →
+        ((group_record strict row p).plan m).verdict ≡ Refuses Incomplete → reg_field m ≢ 0 }
+    ensures address { (strict : Bool) (row : TableRow) (p : Prefixes) (m : ℕ) →
         is_group row.form ≡ true →
-        ((group_record strict row p).plan m).verdict ≡ Refuses Incomplete w → w ≡ AfterAddress }
+        ((group_record strict row p).plan m).verdict ≡ Refuses Incomplete →
+        plan_encodings ((group_record strict row p).plan m) ≡ M ∷ [] }
     ensures answer { (strict : Bool) (row : TableRow) (p : Prefixes) (s : State ℕ) →
         is_group row.form ≡ true →
         (record_step (group_record strict row p) p s).answer ≡ Err IncompleteDecoder →

@@ -106,8 +106,8 @@ pub fn read_row<T: Reader<u64, u8>>(
 ///
 /// `strict` chooses whether LFENCE, MFENCE and SFENCE are refused where rm isn't 0; nothing else depends on it. Of
 /// the errors come `InvalidOpcode` and `InvalidOperand` where the row's record refuses, `IncompleteDecoder` for 8F
-/// with a reg other than 0, and `ExhaustedInput`. After a refusal the bytes up to its moment are taken: none, ModRM,
-/// the address, or all.
+/// with a reg other than 0, and `ExhaustedInput`. After a refusal the bytes that its row takes before are taken:
+/// none, ModRM, the address, or all.
 #[tactic(auto, using(crate::proofs::GroupLemmas::group_form))]
 pub fn read_group<T: Reader<u64, u8>>(
     words: &mut T,

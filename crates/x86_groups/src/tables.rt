@@ -32,21 +32,21 @@ const ECX_THIRD: OperandEncoding = Implied(RegisterSlot::Third, 1, RegisterClass
 
 /// The rows of all forms, after that of a form that has none.
 pub(crate) const ROWS: &[TemplateRow; 222] = &[
-    refused!(Either Reg::Any, Rm::Any; Always; NO B false B ABSENT, ABSENT; Incomplete AtModRM),
+    refused!(Either Reg::Any, Rm::Any; Always; NO B false B ABSENT, ABSENT; Incomplete),
     read!(Either Reg::Any, Rm::Any; Always; ByReg([1, 2, 3, 4, 5, 6, 7, 8]); E_I B false B I8, ABSENT; One One), // 80 ADD OR ADC SBB AND SUB XOR CMP
     read!(Either Reg::Any, Rm::Any; Always; ByReg([1, 2, 3, 4, 5, 6, 7, 8]); E_I B false V Iv, ABSENT; V V), // 81 ADD OR ADC SBB AND SUB XOR CMP
     read!(Either Reg::Any, Rm::Any; Always; ByReg([1, 2, 3, 4, 5, 6, 7, 8]); E_I B false V I8, ABSENT; V V), // 83 ADD OR ADC SBB AND SUB XOR CMP
     read!(Either Reg::Is(0), Rm::Any; With66; Name(10); E B false V ABSENT, ABSENT; V V), // 8f POP
     read!(Either Reg::Is(0), Rm::Any; Always; Name(10); E B false V ABSENT, ABSENT; Eight V), // 8f POP
-    refused!(Either Reg::Any, Rm::Any; Always; NO B false B ABSENT, ABSENT; Incomplete AfterAddress), // 8f
+    refused!(Either Reg::Any, Rm::Any; Always; E B false Q ABSENT, ABSENT; Incomplete), // 8f
     read!(Either Reg::Any, Rm::Any; Always; ByReg([624, 625, 612, 613, 637, 638, 627, 628]); E_I B false B I8, ABSENT; One One), // c0 ROL ROR RCL RCR SHL SHR SAL SAR
     read!(Either Reg::Any, Rm::Any; Always; ByReg([624, 625, 612, 613, 637, 638, 627, 628]); E_I B false V I8, ABSENT; V V), // c1 ROL ROR RCL RCR SHL SHR SAL SAR
     read!(Either Reg::Is(0), Rm::Any; Always; Name(33); E_I B false B I8, ABSENT; One One), // c6 MOV
     read!(Register Reg::Any, Rm::Is(0); Always; Name(674); I B false B I8, ABSENT; One One), // c6 XABORT
-    refused!(Either Reg::Any, Rm::Any; Always; NO B false B ABSENT, ABSENT; BadOperand AfterAddress), // c6
+    refused!(Either Reg::Any, Rm::Any; Always; E B false Q ABSENT, ABSENT; BadOperand), // c6
     read!(Either Reg::Is(0), Rm::Any; Always; Name(33); E_I B false V Iv, ABSENT; V V), // c7 MOV
     read!(Register Reg::Any, Rm::Is(0); Always; Name(675); I B false B Jv, ABSENT; V V), // c7 XBEGIN
-    refused!(Either Reg::Any, Rm::Any; Always; NO B false B ABSENT, ABSENT; BadOperand AfterAddress), // c7
+    refused!(Either Reg::Any, Rm::Any; Always; E B false Q ABSENT, ABSENT; BadOperand), // c7
     read!(Either Reg::Any, Rm::Any; Always; ByReg([624, 625, 612, 613, 637, 638, 627, 628]); E_I B false B SIGNED_ONE, ABSENT; One One), // d0 ROL ROR RCL RCR SHL SHR SAL SAR
     read!(Either Reg::Any, Rm::Any; Always; ByReg([624, 625, 612, 613, 637, 638, 627, 628]); E_I B false V SIGNED_ONE, ABSENT; V V), // d1 ROL ROR RCL RCR SHL SHR SAL SAR
     read!(Either Reg::Any, Rm::Any; Always; ByReg([624, 625, 612, 613, 637, 638, 627, 628]); E_I B false B CL, ABSENT; One One), // d2 ROL ROR RCL RCR SHL SHR SAL SAR
@@ -65,18 +65,18 @@ pub(crate) const ROWS: &[TemplateRow; 222] = &[
     read!(Register Reg::Is(5), Rm::Any; Always; ByRm([496, 500, 499, 503, 501, 502, 504, 0]); NO B false B ABSENT, ABSENT; Zero Zero), // d9 FLD1 FLDL2T FLDL2E FLDPI FLDLG2 FLDLN2 FLDZ -
     read!(Register Reg::Is(6), Rm::Any; Always; ByRm([452, 543, 517, 514, 542, 516, 473, 489]); NO B false B ABSENT, ABSENT; Zero Zero), // d9 F2XM1 FYL2X FPTAN FPATAN FXTRACT FPREM1 FDECSTP FINCSTP
     read!(Register Reg::Is(7), Rm::Any; Always; ByRm([515, 544, 524, 523, 518, 520, 522, 472]); NO B false B ABSENT, ABSENT; Zero Zero), // d9 FPREM FYL2XP1 FSQRT FSINCOS FRNDINT FSCALE FSIN FCOS
-    refused!(Either Reg::Any, Rm::Any; Always; NO B false B ABSENT, ABSENT; BadOpcode AtModRM), // d9
+    refused!(Either Reg::Any, Rm::Any; Always; NO B false B ABSENT, ABSENT; BadOpcode), // d9
     read!(Memory Reg::Any, Rm::Any; Always; ByReg([482, 488, 483, 484, 493, 494, 485, 486]); I_E B false Q ST0, ABSENT; Four Four), // da FIADD FIMUL FICOM FICOMP FISUB FISUBR FIDIV FIDIVR
     read!(Register Reg::Any, Rm::Any; Always; ByReg([459, 461, 460, 466, 0, 0, 0, 0]); I_E B false St ST0, ABSENT; Zero Zero), // da FCMOVB FCMOVE FCMOVBE FCMOVU - - - -
     read!(Register Reg::Is(5), Rm::Is(1); Always; Name(537); NO B false B ABSENT, ABSENT; Zero Zero), // da FUCOMPP
-    refused!(Either Reg::Any, Rm::Any; Always; NO B false B ABSENT, ABSENT; BadOpcode AtModRM), // da
+    refused!(Either Reg::Any, Rm::Any; Always; NO B false B ABSENT, ABSENT; BadOpcode), // da
     read!(Memory Reg::Is(0), Rm::Any; Always; Name(487); I_E B false Q ST0, ABSENT; Four Four), // db FILD
     read!(Memory Reg::Any, Rm::Any; Always; ByReg([0, 492, 490, 491, 0, 0, 0, 0]); E_I B false Q ST0, ABSENT; Four Four), // db - FISTTP FIST FISTP - - - -
     read!(Memory Reg::Is(5), Rm::Any; Always; Name(495); I_E B false Q ST0, ABSENT; Ten Ten), // db FLD
     read!(Memory Reg::Is(7), Rm::Any; Always; Name(526); E_I B false Q ST0, ABSENT; Ten Ten), // db FSTP
     read!(Register Reg::Any, Rm::Any; Always; ByReg([462, 464, 463, 465, 0, 534, 468, 0]); I_E B false St ST0, ABSENT; Zero Zero), // db FCMOVNB FCMOVNE FCMOVNBE FCMOVNU - FUCOMI FCOMI -
     read!(Register Reg::Is(4), Rm::Any; Always; ByRm([479, 474, 507, 508, 521, 0, 0, 0]); NO B false B ABSENT, ABSENT; Zero Zero), // db FENI8087_NOP FDISI8087_NOP FNCLEX FNINIT FSETPM287_NOP - - -
-    refused!(Either Reg::Any, Rm::Any; Always; NO B false B ABSENT, ABSENT; BadOpcode AtModRM), // db
+    refused!(Either Reg::Any, Rm::Any; Always; NO B false B ABSENT, ABSENT; BadOpcode), // db
     read!(Memory Reg::Any, Rm::Any; Always; ByReg([454, 505, 467, 470, 528, 530, 475, 477]); I_E B false Q ST0, ABSENT; Eight Eight), // dc FADD FMUL FCOM FCOMP FSUB FSUBR FDIV FDIVR
     read!(Register Reg::Any, Rm::Any; Always; ByReg([0, 0, 467, 470, 0, 0, 0, 0]); I_E B false St ST0, ABSENT; Zero Zero), // dc - - FCOM FCOMP - - - -
     read!(Register Reg::Any, Rm::Any; Always; ByReg([454, 505, 0, 0, 530, 528, 477, 475]); E_I B false St ST0, ABSENT; Zero Zero), // dc FADD FMUL - - FSUBR FSUB FDIVR FDIV
@@ -87,12 +87,12 @@ pub(crate) const ROWS: &[TemplateRow; 222] = &[
     read!(Register Reg::Is(0), Rm::Any; Always; Name(480); E B false St ABSENT, ABSENT; Zero Zero), // dd FFREE
     read!(Register Reg::Any, Rm::Any; Always; ByReg([0, 539, 0, 0, 533, 536, 0, 0]); I_E B false St ST0, ABSENT; Zero Zero), // dd - FXCH - - FUCOM FUCOMP - -
     read!(Register Reg::Any, Rm::Any; Always; ByReg([0, 0, 525, 526, 0, 0, 0, 0]); E_I B false St ST0, ABSENT; Zero Zero), // dd - - FST FSTP - - - -
-    refused!(Either Reg::Any, Rm::Any; Always; NO B false B ABSENT, ABSENT; BadOpcode AtModRM), // dd
+    refused!(Either Reg::Any, Rm::Any; Always; NO B false B ABSENT, ABSENT; BadOpcode), // dd
     read!(Memory Reg::Any, Rm::Any; Always; ByReg([482, 488, 483, 484, 493, 494, 485, 486]); I_E B false Q ST0, ABSENT; Two Two), // de FIADD FIMUL FICOM FICOMP FISUB FISUBR FIDIV FIDIVR
     read!(Register Reg::Is(2), Rm::Any; Always; Name(470); I_E B false St ST0, ABSENT; Zero Zero), // de FCOMP
     read!(Register Reg::Is(3), Rm::Is(1); Always; Name(471); NO B false B ABSENT, ABSENT; Zero Zero), // de FCOMPP
     read!(Register Reg::Any, Rm::Any; Always; ByReg([455, 506, 0, 0, 531, 529, 478, 476]); E_I B false St ST0, ABSENT; Zero Zero), // de FADDP FMULP - - FSUBRP FSUBP FDIVRP FDIVP
-    refused!(Either Reg::Any, Rm::Any; Always; NO B false B ABSENT, ABSENT; BadOperand AtModRM), // de
+    refused!(Either Reg::Any, Rm::Any; Always; NO B false B ABSENT, ABSENT; BadOperand), // de
     read!(Memory Reg::Is(0), Rm::Any; Always; Name(487); I_E B false Q ST0, ABSENT; Two Two), // df FILD
     read!(Memory Reg::Any, Rm::Any; Always; ByReg([0, 492, 490, 491, 0, 0, 0, 0]); E_I B false Q ST0, ABSENT; Two Two), // df - FISTTP FIST FISTP - - - -
     read!(Memory Reg::Is(4), Rm::Any; Always; Name(456); I_E B false Q ST0, ABSENT; Ten Ten), // df FBLD
@@ -103,24 +103,24 @@ pub(crate) const ROWS: &[TemplateRow; 222] = &[
     read!(Register Reg::Any, Rm::Any; Always; ByReg([0, 539, 0, 0, 0, 535, 469, 0]); I_E B false St ST0, ABSENT; Zero Zero), // df - FXCH - - - FUCOMIP FCOMIP -
     read!(Register Reg::Any, Rm::Any; Always; ByReg([0, 0, 526, 526, 0, 0, 0, 0]); E_I B false St ST0, ABSENT; Zero Zero), // df - - FSTP FSTP - - - -
     read!(Register Reg::Is(4), Rm::Is(0); Always; Name(513); E B false W ABSENT, ABSENT; Zero Zero), // df FNSTSW
-    refused!(Either Reg::Any, Rm::Any; Always; NO B false B ABSENT, ABSENT; BadOpcode AtModRM), // df
+    refused!(Either Reg::Any, Rm::Any; Always; NO B false B ABSENT, ABSENT; BadOpcode), // df
     read!(Either Reg::Any, Rm::Any; Always; ByReg([31, 31, 0, 0, 0, 0, 0, 0]); E_I B false B I8, ABSENT; One One), // f6 TEST TEST - - - - - -
     read!(Either Reg::Any, Rm::Any; Always; ByReg([0, 0, 574, 573, 570, 12, 444, 546]); E B false B ABSENT, ABSENT; One One), // f6 - - NOT NEG MUL IMUL DIV IDIV
     read!(Either Reg::Any, Rm::Any; Always; ByReg([31, 31, 0, 0, 0, 0, 0, 0]); E_I B false V Iv, ABSENT; V V), // f7 TEST TEST - - - - - -
     read!(Either Reg::Any, Rm::Any; Always; ByReg([0, 0, 574, 573, 570, 12, 444, 546]); E B false V ABSENT, ABSENT; V V), // f7 - - NOT NEG MUL IMUL DIV IDIV
     read!(Either Reg::Any, Rm::Any; Always; ByReg([547, 443, 0, 0, 0, 0, 0, 0]); E B false B ABSENT, ABSENT; One One), // fe INC DEC - - - - - -
-    refused!(Either Reg::Any, Rm::Any; Always; NO B false B ABSENT, ABSENT; BadOpcode AfterAddress), // fe
+    refused!(Either Reg::Any, Rm::Any; Always; E B false Q ABSENT, ABSENT; BadOpcode), // fe
     read!(Either Reg::Any, Rm::Any; Always; ByReg([547, 443, 0, 0, 0, 0, 0, 0]); E B false V ABSENT, ABSENT; V V), // ff INC DEC - - - - - -
     read!(Either Reg::Is(2), Rm::Any; Always; Name(58); E B false Q ABSENT, ABSENT; Eight Eight), // ff CALL
     read!(Memory Reg::Is(3), Rm::Any; Always; Name(426); E B false Q ABSENT, ABSENT; Ten Ten), // ff CALLF
     read!(Either Reg::Is(4), Rm::Any; Always; Name(54); E B false Q ABSENT, ABSENT; Eight V), // ff JMP
     read!(Memory Reg::Is(5), Rm::Any; Always; Name(556); E B false Q ABSENT, ABSENT; Ten Ten), // ff JMPF
     read!(Either Reg::Is(6), Rm::Any; Always; Name(9); E B false V ABSENT, ABSENT; Vq Vq), // ff PUSH
-    refused!(Register Reg::Is(3), Rm::Any; Always; NO B false B ABSENT, ABSENT; BadOperand AtModRM), // ff
-    refused!(Register Reg::Is(5), Rm::Any; Always; NO B false B ABSENT, ABSENT; BadOperand AtModRM), // ff
-    refused!(Either Reg::Any, Rm::Any; Always; NO B false B ABSENT, ABSENT; BadOpcode AfterAddress), // ff
+    refused!(Register Reg::Is(3), Rm::Any; Always; NO B false B ABSENT, ABSENT; BadOperand), // ff
+    refused!(Register Reg::Is(5), Rm::Any; Always; NO B false B ABSENT, ABSENT; BadOperand), // ff
+    refused!(Either Reg::Any, Rm::Any; Always; E B false Q ABSENT, ABSENT; BadOpcode), // ff
     read!(Either Reg::Any, Rm::Any; Always; ByReg([641, 646, 561, 564, 656, 657, 0, 0]); E B false W ABSENT, ABSENT; Two Zero), // 0f00 SLDT STR LLDT LTR VERR VERW - -
-    refused!(Either Reg::Any, Rm::Any; Always; NO B false B ABSENT, ABSENT; BadOperand AtModRM), // 0f00
+    refused!(Either Reg::Any, Rm::Any; Always; NO B false B ABSENT, ABSENT; BadOperand), // 0f00
     read!(Memory Reg::Is(0), Rm::Any; Always; Name(636); E B false Q ABSENT, ABSENT; Ten Ten), // 0f01 SGDT
     read!(Memory Reg::Is(1), Rm::Any; Always; Name(639); E B false Q ABSENT, ABSENT; Ten Ten), // 0f01 SIDT
     read!(Memory Reg::Is(2), Rm::Any; Always; Name(559); E B false Q ABSENT, ABSENT; Ten Ten), // 0f01 LGDT
@@ -130,14 +130,14 @@ pub(crate) const ROWS: &[TemplateRow; 222] = &[
     read!(Memory Reg::Is(6), Rm::Any; Always; Name(562); E B false Q ABSENT, ABSENT; Two Two), // 0f01 LMSW
     read!(Memory Reg::Is(7), Rm::Any; Always; Name(549); E B false Q ABSENT, ABSENT; One One), // 0f01 INVLPG
     read!(Register Reg::Is(0), Rm::Any; NoPrefix; ByRm([447, 658, 661, 666, 669, 576, 0, 0]); NO B false B ABSENT, ABSENT; Zero Zero), // 0f01 ENCLV VMCALL VMLAUNCH VMRESUME VMXOFF PCONFIG - -
-    refused!(Register Reg::Is(0), Rm::Any; NoPrefix; NO B false B ABSENT, ABSENT; BadOpcode AtModRM), // 0f01
+    refused!(Register Reg::Is(0), Rm::Any; NoPrefix; NO B false B ABSENT, ABSENT; BadOpcode), // 0f01
     read!(Register Reg::Is(1), Rm::Is(0); NoPrefix; Name(566); NO B false B ABSENT, ABSENT; One One), // 0f01 MONITOR
     read!(Register Reg::Is(1), Rm::Any; NoPrefix; ByRm([0, 571, 430, 643, 0, 0, 0, 445]); NO B false B ABSENT, ABSENT; Zero Zero), // 0f01 - MWAIT CLAC STAC - - - ENCLS
     read!(Register Reg::Is(1), Rm::Any; Only66; ByRm([0, 0, 0, 0, 649, 632, 631, 630]); NO B false B ABSENT, ABSENT; Zero Zero), // 0f01 - - - - TDCALL SEAMRET SEAMOPS SEAMCALL
     read!(Register Reg::Is(2), Rm::Any; NoPrefix; ByRm([677, 688, 0, 0, 660, 676, 690, 446]); NO B false B ABSENT, ABSENT; Zero Zero), // 0f01 XGETBV XSETBV - - VMFUNC XEND XTEST ENCLU
-    refused!(Register Reg::Is(2), Rm::Any; NoPrefix; NO B false B ABSENT, ABSENT; BadOpcode AtModRM), // 0f01
-    refused!(Register Reg::Is(0), Rm::Any; Always; NO B false B ABSENT, ABSENT; BadOperand AtModRM), // 0f01
-    refused!(Register Reg::Is(2), Rm::Any; Always; NO B false B ABSENT, ABSENT; BadOperand AtModRM), // 0f01
+    refused!(Register Reg::Is(2), Rm::Any; NoPrefix; NO B false B ABSENT, ABSENT; BadOpcode), // 0f01
+    refused!(Register Reg::Is(0), Rm::Any; Always; NO B false B ABSENT, ABSENT; BadOperand), // 0f01
+    refused!(Register Reg::Is(2), Rm::Any; Always; NO B false B ABSENT, ABSENT; BadOperand), // 0f01
     read!(Register Reg::Is(3), Rm::Is(0); Always; Name(667); R Q false B ABSENT, ABSENT; Zero Zero), // 0f01 VMRUN
     read!(Register Reg::Is(3), Rm::Is(2); Always; Name(662); R Q false B ABSENT, ABSENT; Zero Zero), // 0f01 VMLOAD
     read!(Register Reg::Is(3), Rm::Is(3); Always; Name(668); R Q false B ABSENT, ABSENT; Zero Zero), // 0f01 VMSAVE
@@ -151,50 +151,50 @@ pub(crate) const ROWS: &[TemplateRow; 222] = &[
     read!(Register Reg::Is(6), Rm::Any; Always; Name(562); E B false W ABSENT, ABSENT; Two Two), // 0f01 LMSW
     read!(Register Reg::Is(7), Rm::Any; Always; ByRm([648, 621, 567, 572, 437, 0, 0, 0]); NO B false B ABSENT, ABSENT; Zero Zero), // 0f01 SWAPGS RDTSCP MONITORX MWAITX CLZERO - - -
     read!(Register Reg::Is(7), Rm::Is(5); Always; Name(618); I B false B ECX, ABSENT; Zero Zero), // 0f01 RDPRU
-    refused!(Register Reg::Is(7), Rm::Any; With66; NO B false B ABSENT, ABSENT; BadOperand AtModRM), // 0f01
+    refused!(Register Reg::Is(7), Rm::Any; With66; NO B false B ABSENT, ABSENT; BadOperand), // 0f01
     read!(Register Reg::Is(7), Rm::Any; F3; ByRm([0, 0, 0, 0, 0, 0, 622, 607]); NO B false B ABSENT, ABSENT; Zero Zero), // 0f01 - - - - - - RMPADJUST PSMASH
     read!(Register Reg::Is(7), Rm::Any; F2; ByRm([0, 0, 0, 0, 0, 0, 623, 611]); NO B false B ABSENT, ABSENT; Zero Zero), // 0f01 - - - - - - RMPUPDATE PVALIDATE
     read!(Register Reg::Is(7), Rm::Is(6); Always; Name(551); R_I_X Q false B EDX_IN_RM, ECX_THIRD; Zero Zero), // 0f01 INVLPGB
     read!(Register Reg::Is(7), Rm::Is(7); Always; Name(651); NO B false B ABSENT, ABSENT; Zero Zero), // 0f01 TLBSYNC
-    refused!(Either Reg::Any, Rm::Any; Always; NO B false B ABSENT, ABSENT; BadOpcode AtModRM), // 0f01
+    refused!(Either Reg::Any, Rm::Any; Always; NO B false B ABSENT, ABSENT; BadOpcode), // 0f01
     read!(Memory Reg::Is(1), Rm::Any; Always; Name(605); E B false Q ABSENT, ABSENT; SixtyFour SixtyFour), // 0f0d PREFETCHW
     read!(Memory Reg::Any, Rm::Any; Always; Name(76); E B false Q ABSENT, ABSENT; SixtyFour SixtyFour), // 0f0d NOP
-    refused!(Either Reg::Any, Rm::Any; Always; NO B false B ABSENT, ABSENT; BadOperand AtModRM), // 0f0d
+    refused!(Either Reg::Any, Rm::Any; Always; NO B false B ABSENT, ABSENT; BadOperand), // 0f0d
     suffixed!(Either Reg::Any, Rm::Any; Always; G_E Mm false Mm ABSENT, ABSENT; Eight V), // 0f0f
     read!(Memory Reg::Any, Rm::Any; Always; ByReg([604, 601, 602, 603, 0, 0, 0, 0]); E B false V ABSENT, ABSENT; SixtyFour SixtyFour), // 0f18 PREFETCHNTA PREFETCH0 PREFETCH1 PREFETCH2 - - - -
     read!(Either Reg::Any, Rm::Any; Always; Name(76); E B false V ABSENT, ABSENT; SixtyFour V), // 0f18 NOP
     read!(Register Reg::Is(0), Rm::Any; Always; Own; E_I B false Q Cr, ABSENT; Zero Zero), // Rq_Cq_0
-    refused!(Register Reg::From(2, 4), Rm::Any; RexR; NO B false B ABSENT, ABSENT; BadOperand AtModRM), // Rq_Cq_0
+    refused!(Register Reg::From(2, 4), Rm::Any; RexR; NO B false B ABSENT, ABSENT; BadOperand), // Rq_Cq_0
     read!(Register Reg::From(2, 4), Rm::Any; Always; Own; E_I B false Q Cr, ABSENT; Zero Zero), // Rq_Cq_0
-    refused!(Either Reg::Any, Rm::Any; Always; NO B false B ABSENT, ABSENT; BadOperand AtModRM), // Rq_Cq_0
-    refused!(Register Reg::Any, Rm::Any; RexR; NO B false B ABSENT, ABSENT; BadOperand AtModRM), // Rq_Dq_0
+    refused!(Either Reg::Any, Rm::Any; Always; NO B false B ABSENT, ABSENT; BadOperand), // Rq_Cq_0
+    refused!(Register Reg::Any, Rm::Any; RexR; NO B false B ABSENT, ABSENT; BadOperand), // Rq_Dq_0
     read!(Register Reg::Any, Rm::Any; Always; Own; E_I B false Q Dr, ABSENT; Zero Zero), // Rq_Dq_0
     read!(Register Reg::Is(0), Rm::Any; Always; Own; I_E B false Q Cr, ABSENT; Zero Zero), // Cq_Rq_0
-    refused!(Register Reg::From(2, 4), Rm::Any; RexR; NO B false B ABSENT, ABSENT; BadOperand AtModRM), // Cq_Rq_0
+    refused!(Register Reg::From(2, 4), Rm::Any; RexR; NO B false B ABSENT, ABSENT; BadOperand), // Cq_Rq_0
     read!(Register Reg::From(2, 4), Rm::Any; Always; Own; I_E B false Q Cr, ABSENT; Zero Zero), // Cq_Rq_0
-    refused!(Either Reg::Any, Rm::Any; Always; NO B false B ABSENT, ABSENT; BadOperand AtModRM), // Cq_Rq_0
-    refused!(Register Reg::Any, Rm::Any; RexR; NO B false B ABSENT, ABSENT; BadOperand AtModRM), // Dq_Rq_0
+    refused!(Either Reg::Any, Rm::Any; Always; NO B false B ABSENT, ABSENT; BadOperand), // Cq_Rq_0
+    refused!(Register Reg::Any, Rm::Any; RexR; NO B false B ABSENT, ABSENT; BadOperand), // Dq_Rq_0
     read!(Register Reg::Any, Rm::Any; Always; Own; I_E B false Q Dr, ABSENT; Zero Zero), // Dq_Rq_0
     read!(Register Reg::Any, Rm::Any; Only66; ByReg([0, 0, 151, 0, 165, 0, 178, 0]); E_I B false X U8, ABSENT; V V), // 0f71 - - PSRLW - PSRAW - PSLLW -
     read!(Register Reg::Any, Rm::Any; NoPrefix; ByReg([0, 0, 151, 0, 165, 0, 178, 0]); E_I B false Mm U8, ABSENT; V V), // 0f71 - - PSRLW - PSRAW - PSLLW -
-    refused!(Register Reg::Any, Rm::Any; NoRepeat; NO B false B ABSENT, ABSENT; BadOpcode AfterAddress), // 0f71
-    refused!(Either Reg::Any, Rm::Any; Always; NO B false B ABSENT, ABSENT; BadOperand AfterAddress), // 0f71
+    refused!(Register Reg::Any, Rm::Any; NoRepeat; E B false Q ABSENT, ABSENT; BadOpcode), // 0f71
+    refused!(Either Reg::Any, Rm::Any; Always; E B false Q ABSENT, ABSENT; BadOperand), // 0f71
     read!(Register Reg::Any, Rm::Any; Only66; ByReg([0, 0, 152, 0, 166, 0, 179, 0]); E_I B false X U8, ABSENT; V V), // 0f72 - - PSRLD - PSRAD - PSLLD -
     read!(Register Reg::Any, Rm::Any; NoPrefix; ByReg([0, 0, 152, 0, 166, 0, 179, 0]); E_I B false Mm U8, ABSENT; V V), // 0f72 - - PSRLD - PSRAD - PSLLD -
-    refused!(Register Reg::Any, Rm::Any; NoRepeat; NO B false B ABSENT, ABSENT; BadOpcode AfterAddress), // 0f72
-    refused!(Either Reg::Any, Rm::Any; Always; NO B false B ABSENT, ABSENT; BadOperand AfterAddress), // 0f72
+    refused!(Register Reg::Any, Rm::Any; NoRepeat; E B false Q ABSENT, ABSENT; BadOpcode), // 0f72
+    refused!(Either Reg::Any, Rm::Any; Always; E B false Q ABSENT, ABSENT; BadOperand), // 0f72
     read!(Register Reg::Any, Rm::Any; Only66; ByReg([0, 0, 153, 608, 0, 0, 180, 606]); E_I B false X U8, ABSENT; V V), // 0f73 - - PSRLQ PSRLDQ - - PSLLQ PSLLDQ
     read!(Register Reg::Any, Rm::Any; NoPrefix; ByReg([0, 0, 153, 0, 0, 0, 180, 0]); E_I B false Mm U8, ABSENT; V V), // 0f73 - - PSRLQ - - - PSLLQ -
-    refused!(Register Reg::Is(3), Rm::Any; NoPrefix; NO B false B ABSENT, ABSENT; BadOperand AfterAddress), // 0f73
-    refused!(Register Reg::Is(7), Rm::Any; NoPrefix; NO B false B ABSENT, ABSENT; BadOperand AfterAddress), // 0f73
-    refused!(Register Reg::Any, Rm::Any; NoRepeat; NO B false B ABSENT, ABSENT; BadOpcode AfterAddress), // 0f73
-    refused!(Either Reg::Any, Rm::Any; Always; NO B false B ABSENT, ABSENT; BadOperand AfterAddress), // 0f73
+    refused!(Register Reg::Is(3), Rm::Any; NoPrefix; E B false Q ABSENT, ABSENT; BadOperand), // 0f73
+    refused!(Register Reg::Is(7), Rm::Any; NoPrefix; E B false Q ABSENT, ABSENT; BadOperand), // 0f73
+    refused!(Register Reg::Any, Rm::Any; NoRepeat; E B false Q ABSENT, ABSENT; BadOpcode), // 0f73
+    refused!(Either Reg::Any, Rm::Any; Always; E B false Q ABSENT, ABSENT; BadOperand), // 0f73
     read!(Register Reg::Is(6), Rm::Any; F2; Name(655); I B false B RdInReg, ABSENT; Zero Zero), // 0fae UMWAIT
-    refused!(Memory Reg::Any, Rm::Any; F2; NO B false B ABSENT, ABSENT; BadOperand AtModRM), // 0fae
-    refused!(Either Reg::Is(4), Rm::Any; With66; NO B false B ABSENT, ABSENT; BadOpcode AtModRM), // 0fae
+    refused!(Memory Reg::Any, Rm::Any; F2; NO B false B ABSENT, ABSENT; BadOperand), // 0fae
+    refused!(Either Reg::Is(4), Rm::Any; With66; NO B false B ABSENT, ABSENT; BadOpcode), // 0fae
     read!(Either Reg::Is(4), Rm::Any; F3; Name(610); E B false Dq ABSENT, ABSENT; Dq Zero), // 0fae PTWRITE
     read!(Memory Reg::Is(6), Rm::Any; F3; Name(434); E B false Q ABSENT, ABSENT; Eight Eight), // 0fae CLRSSBSY
-    refused!(Memory Reg::Any, Rm::Any; F3; NO B false B ABSENT, ABSENT; BadOperand AtModRM), // 0fae
+    refused!(Memory Reg::Any, Rm::Any; F3; NO B false B ABSENT, ABSENT; BadOperand), // 0fae
     read!(Register Reg::Any, Rm::Any; F3; ByReg([614, 615, 671, 672, 0, 548, 0, 0]); E B false Dq ABSENT, ABSENT; Zero Zero), // 0fae RDFSBASE RDGSBASE WRFSBASE WRGSBASE - INCSSP - -
     read!(Register Reg::Is(6), Rm::Any; F3; Name(654); E B false Q ABSENT, ABSENT; Zero Zero), // 0fae UMONITOR
     read!(Memory Reg::Is(6), Rm::Any; Only66; Name(436); E B false Q ABSENT, ABSENT; SixtyFour SixtyFour; ClearsOperandSize), // 0fae CLWB
@@ -204,56 +204,56 @@ pub(crate) const ROWS: &[TemplateRow; 222] = &[
     read!(Memory Reg::Any, Rm::Any; NoPrefix; ByReg([0, 0, 557, 645, 0, 0, 0, 0]); E B false Q ABSENT, ABSENT; Four Four), // 0fae - - LDMXCSR STMXCSR - - - -
     read!(Memory Reg::Is(7), Rm::Any; NoPrefix; Name(431); E B false Q ABSENT, ABSENT; SixtyFour SixtyFour), // 0fae CLFLUSH
     read!(Register Reg::Any, Rm::ZeroIfStrict; NoPrefix; ByReg([0, 0, 0, 0, 0, 558, 565, 635]); NO B false B ABSENT, ABSENT; Zero Zero), // 0fae - - - - - LFENCE MFENCE SFENCE
-    refused!(Register Reg::From(5, 7), Rm::Any; NoPrefix; NO B false B ABSENT, ABSENT; BadOperand AtModRM), // 0fae
-    refused!(Either Reg::Any, Rm::Any; Always; NO B false B ABSENT, ABSENT; BadOpcode AtModRM), // 0fae
+    refused!(Register Reg::From(5, 7), Rm::Any; NoPrefix; NO B false B ABSENT, ABSENT; BadOperand), // 0fae
+    refused!(Either Reg::Any, Rm::Any; Always; NO B false B ABSENT, ABSENT; BadOpcode), // 0fae
     read!(Either Reg::Any, Rm::Any; Always; ByReg([0, 0, 0, 0, 118, 119, 120, 121]); E_I B false Vq I8, ABSENT; Vq Zero), // 0fba - - - - BT BTS BTR BTC
-    refused!(Either Reg::Any, Rm::Any; Always; NO B false B ABSENT, ABSENT; BadOpcode AtModRM), // 0fba
+    refused!(Either Reg::Any, Rm::Any; Always; NO B false B ABSENT, ABSENT; BadOpcode), // 0fba
     read!(Memory Reg::Is(1), Rm::Any; RexW; Name(438); E B false Q ABSENT, ABSENT; Sixteen Sixteen), // 0fc7 CMPXCHG16B
     read!(Memory Reg::Is(1), Rm::Any; Always; Name(439); E B false Q ABSENT, ABSENT; Eight Eight), // 0fc7 CMPXCHG8B
-    refused!(Either Reg::Is(1), Rm::Any; Always; NO B false B ABSENT, ABSENT; BadOperand AtModRM), // 0fc7
-    refused!(Either Reg::Any, Rm::Any; F2; NO B false B ABSENT, ABSENT; BadOperand AtModRM), // 0fc7
+    refused!(Either Reg::Is(1), Rm::Any; Always; NO B false B ABSENT, ABSENT; BadOperand), // 0fc7
+    refused!(Either Reg::Any, Rm::Any; F2; NO B false B ABSENT, ABSENT; BadOperand), // 0fc7
     read!(Memory Reg::Is(6), Rm::Any; With66; Name(659); E B false Q ABSENT, ABSENT; Eight Eight), // 0fc7 VMCLEAR
     read!(Register Reg::Any, Rm::Any; With66; ByReg([0, 0, 0, 0, 0, 0, 619, 620]); E B false W ABSENT, ABSENT; Zero Zero), // 0fc7 - - - - - - RDRAND RDSEED
-    refused!(Memory Reg::Is(7), Rm::Any; With66; NO B false B ABSENT, ABSENT; BadOpcode AfterAddress), // 0fc7
-    refused!(Either Reg::Any, Rm::Any; With66; NO B false B ABSENT, ABSENT; BadOpcode AtModRM), // 0fc7
+    refused!(Memory Reg::Is(7), Rm::Any; With66; E B false Q ABSENT, ABSENT; BadOpcode), // 0fc7
+    refused!(Either Reg::Any, Rm::Any; With66; NO B false B ABSENT, ABSENT; BadOpcode), // 0fc7
     read!(Memory Reg::Is(6), Rm::Any; F3; Name(670); E B false Q ABSENT, ABSENT; Eight Eight), // 0fc7 VMXON
     read!(Register Reg::Any, Rm::Any; F3; ByReg([0, 0, 0, 0, 0, 0, 633, 616]); E B false Q ABSENT, ABSENT; Zero Zero), // 0fc7 - - - - - - SENDUIPI RDPID
-    refused!(Memory Reg::Is(7), Rm::Any; F3; NO B false B ABSENT, ABSENT; BadOperand AfterAddress), // 0fc7
-    refused!(Either Reg::Any, Rm::Any; F3; NO B false B ABSENT, ABSENT; BadOpcode AtModRM), // 0fc7
+    refused!(Memory Reg::Is(7), Rm::Any; F3; E B false Q ABSENT, ABSENT; BadOperand), // 0fc7
+    refused!(Either Reg::Any, Rm::Any; F3; NO B false B ABSENT, ABSENT; BadOpcode), // 0fc7
     read!(Memory Reg::Any, Rm::Any; RexW; ByReg([0, 0, 0, 681, 684, 687, 0, 0]); E B false Q ABSENT, ABSENT; Undecided Undecided), // 0fc7 - - - XRSTORS64 XSAVEC64 XSAVES64 - -
     read!(Memory Reg::Any, Rm::Any; Always; ByReg([0, 0, 0, 680, 683, 686, 0, 0]); E B false Q ABSENT, ABSENT; Undecided Undecided), // 0fc7 - - - XRSTORS XSAVEC XSAVES - -
     read!(Memory Reg::Any, Rm::Any; Always; ByReg([0, 0, 0, 0, 0, 0, 664, 665]); E B false Q ABSENT, ABSENT; Eight Eight), // 0fc7 - - - - - - VMPTRLD VMPTRST
     read!(Register Reg::Any, Rm::Any; Always; ByReg([0, 0, 0, 0, 0, 0, 619, 620]); E B false V ABSENT, ABSENT; Zero Zero), // 0fc7 - - - - - - RDRAND RDSEED
-    refused!(Either Reg::Any, Rm::Any; Always; NO B false B ABSENT, ABSENT; BadOperand AtModRM), // 0fc7
+    refused!(Either Reg::Any, Rm::Any; Always; NO B false B ABSENT, ABSENT; BadOperand), // 0fc7
     read!(Memory Reg::Any, Rm::Any; Always; Name(195); G_E X false X ABSENT, ABSENT; Eight Eight), // 0f12 MOVLPS
     read!(Register Reg::Any, Rm::Any; Always; Name(568); G_E X false X ABSENT, ABSENT; V V), // 0f12 MOVHLPS
     read!(Memory Reg::Any, Rm::Any; Always; Name(196); G_E X false X ABSENT, ABSENT; Eight Eight), // 0f16 MOVHPS
     read!(Register Reg::Any, Rm::Any; Always; Name(569); G_E X false X ABSENT, ABSENT; V V), // 0f16 MOVLHPS
     read!(Register Reg::Is(0), Rm::Any; Always; Name(270); E_I_X B false X U8, X8; Zero Zero), // 660f78 EXTRQ
-    refused!(Either Reg::Any, Rm::Any; Always; NO B false B ABSENT, ABSENT; BadOperand AtModRM), // 660f78
+    refused!(Either Reg::Any, Rm::Any; Always; NO B false B ABSENT, ABSENT; BadOperand), // 660f78
     read!(Register Reg::Is(7), Rm::Is(2); Always; Name(451); NO B false B ABSENT, ABSENT; Zero Zero), // f30f1e ENDBR64
     read!(Register Reg::Is(7), Rm::Is(3); Always; Name(450); NO B false B ABSENT, ABSENT; Zero Zero), // f30f1e ENDBR32
     read!(Either Reg::Any, Rm::Any; Always; Name(76); E_G V false V ABSENT, ABSENT; V V), // f30f1e NOP
     read!(Register Reg::Any, Rm::Any; Always; Name(318); G_E_I_X X false X U8, X8; Zero Zero), // f20f78 INSERTQ
-    refused!(Either Reg::Any, Rm::Any; Always; NO B false B ABSENT, ABSENT; BadOperand AtModRM), // f20f78
+    refused!(Either Reg::Any, Rm::Any; Always; NO B false B ABSENT, ABSENT; BadOperand), // f20f78
     read!(Memory Reg::Any, Rm::Any; Always; ByReg([424, 420, 0, 0, 0, 0, 0, 0]); E B false Q ABSENT, ABSENT; FortyEight FortyEight), // f30f38d8 AESENCWIDE128KL AESDECWIDE128KL - - - - - -
     read!(Memory Reg::Any, Rm::Any; Always; ByReg([0, 0, 425, 421, 0, 0, 0, 0]); E B false Q ABSENT, ABSENT; SixtyFour SixtyFour), // f30f38d8 - - AESENCWIDE256KL AESDECWIDE256KL - - - -
-    refused!(Memory Reg::Any, Rm::Any; Always; NO B false B ABSENT, ABSENT; BadOpcode AfterAddress), // f30f38d8
-    refused!(Either Reg::Any, Rm::Any; Always; NO B false B ABSENT, ABSENT; BadOperand AtModRM), // f30f38d8
+    refused!(Memory Reg::Any, Rm::Any; Always; E B false Q ABSENT, ABSENT; BadOpcode), // f30f38d8
+    refused!(Either Reg::Any, Rm::Any; Always; NO B false B ABSENT, ABSENT; BadOperand), // f30f38d8
     read!(Memory Reg::Any, Rm::Any; Always; Name(422); G_E X false X ABSENT, ABSENT; FortyEight FortyEight), // f30f38dc AESENC128KL
     read!(Register Reg::Any, Rm::Any; Always; Name(563); G_E X false X ABSENT, ABSENT; V V), // f30f38dc LOADIWKEY
     read!(Memory Reg::Any, Rm::Any; Always; Name(418); G_E X false Q ABSENT, ABSENT; FortyEight FortyEight), // f30f38dd AESDEC128KL
-    refused!(Either Reg::Any, Rm::Any; Always; NO B false B ABSENT, ABSENT; BadOperand AtModRM), // f30f38dd
+    refused!(Either Reg::Any, Rm::Any; Always; NO B false B ABSENT, ABSENT; BadOperand), // f30f38dd
     read!(Memory Reg::Any, Rm::Any; Always; Name(423); G_E X false Q ABSENT, ABSENT; SixtyFour SixtyFour), // f30f38de AESENC256KL
-    refused!(Either Reg::Any, Rm::Any; Always; NO B false B ABSENT, ABSENT; BadOperand AtModRM), // f30f38de
+    refused!(Either Reg::Any, Rm::Any; Always; NO B false B ABSENT, ABSENT; BadOperand), // f30f38de
     read!(Memory Reg::Any, Rm::Any; Always; Name(419); G_E X false Q ABSENT, ABSENT; SixtyFour SixtyFour), // f30f38df AESDEC256KL
-    refused!(Either Reg::Any, Rm::Any; Always; NO B false B ABSENT, ABSENT; BadOperand AtModRM), // f30f38df
+    refused!(Either Reg::Any, Rm::Any; Always; NO B false B ABSENT, ABSENT; BadOperand), // f30f38df
     read!(Register Reg::Any, Rm::Any; Always; Name(448); G_E D false D ABSENT, ABSENT; V V), // f30f38fa ENCODEKEY128
-    refused!(Either Reg::Any, Rm::Any; Always; NO B false B ABSENT, ABSENT; BadOpcode AfterAddress), // f30f38fa
+    refused!(Either Reg::Any, Rm::Any; Always; E B false Q ABSENT, ABSENT; BadOpcode), // f30f38fa
     read!(Register Reg::Any, Rm::Any; Always; Name(449); G_E D false D ABSENT, ABSENT; V V), // f30f38fb ENCODEKEY256
-    refused!(Either Reg::Any, Rm::Any; Always; NO B false B ABSENT, ABSENT; BadOpcode AfterAddress), // f30f38fb
+    refused!(Either Reg::Any, Rm::Any; Always; E B false Q ABSENT, ABSENT; BadOpcode), // f30f38fb
     read!(Register Reg::Any, Rm::Any; Always; Name(545); I B false B U8, ABSENT; Zero Zero), // f30f3af0 HRESET
-    refused!(Either Reg::Any, Rm::Any; Always; NO B false B ABSENT, ABSENT; BadOpcode AtModRM), // f30f3af0
+    refused!(Either Reg::Any, Rm::Any; Always; NO B false B ABSENT, ABSENT; BadOpcode), // f30f3af0
 ];
 
 /// The first row of each ordinal, and the one after its last. A form that carries a number has eight ordinals.

@@ -4,10 +4,10 @@ use Rattle.std.proofs.Common.{arith, true≢false, ◌≢◌, if◌then◌else�
 use Rattle.std.specs.List.{list_all, list_any}
 use Rattle.std.proofs.lemmas.Bool.{and_parts, or_cases, and_left}
 use Rattle.std.proofs.lemmas.Bool.Decides.{nat_tests}
-use Rattle.x86_operands.specs.Vocabulary.{Prefixes, Size, OperandEncoding, Position, Nowhere, TableRow, Template, BadOpcode, AtModRM, reg_field, is_memory}
-use Rattle.x86_operands.specs.Vocabulary.{RegisterClass, Fault, Incomplete, Moment, Verdict, Refuses, width_of, has_r, has_w, repnz, rep}
+use Rattle.x86_operands.specs.Vocabulary.{Prefixes, Size, OperandEncoding, Position, Nowhere, TableRow, Template, BadOpcode, reg_field, is_memory}
+use Rattle.x86_operands.specs.Vocabulary.{RegisterClass, Fault, Incomplete, Verdict, Refuses, width_of, has_r, has_w, repnz, rep}
 use Rattle.x86_operands.specs.RowVocabulary.{Names, Place, Register, Reg, When, Rm, ByRm, TemplateRow}
-use Rattle.x86_operands.specs.Words.{otherwise}
+use Rattle.x86_operands.specs.Words.{AtModRM, otherwise}
 use Rattle.x86_forms.specs.Words.{carried}
 use Rattle.x86_operands.specs.Plans.{Plan, is_refusal}
 use Rattle.x86_operands.specs.Pieces.{is_modrm_encoding}
@@ -120,7 +120,7 @@ is_gap Incomplete = true
 is_gap fault = false
 
 abbrev pub has_gap : Verdict → Bool
-has_gap (Refuses fault moment) = is_gap fault
+has_gap (Refuses fault) = is_gap fault
 has_gap verdict = false
 
 -- the immediates have at most 8 bytes together
@@ -144,9 +144,9 @@ module _ (gaps : Bool) (plan : Plan) (h : passes gaps plan ≡ true) where
   unfolding passes narrow
   at_most_8 = grind (arith, nat_tests)
 
-pub without_gap : (plan : Plan) (w : Moment) → passes false plan ≡ true → plan.verdict ≢ Refuses Incomplete w
+pub without_gap : (plan : Plan) → passes false plan ≡ true → plan.verdict ≢ Refuses Incomplete
 unfolding passes
-without_gap plan w h e =
+without_gap plan h e =
     let gap : has_gap plan.verdict ≡ true = ap has_gap e in
     grind arith
 

@@ -6,7 +6,7 @@ use Rattle.std.specs.Option.{option_map_or}
 use Rattle.std.proofs.lemmas.Bool.{and_parts, ltb-true}
 use Rattle.std.proofs.lemmas.List.Elements.{All-get_or}
 use Rattle.std.proofs.lemmas.List.Sums.{AllPass-from_list_all}
-use Rattle.x86_operands.specs.Vocabulary.{After, BadOpcode, AtModRM, EitherForm, Absent, Form, Head, ModrmUse, Prefixes, TableRow, is_memory, reg_field}
+use Rattle.x86_operands.specs.Vocabulary.{After, BadOpcode, EitherForm, Absent, Form, Head, ModrmUse, Prefixes, TableRow, is_memory, reg_field}
 use Rattle.x86_operands.specs.RowVocabulary.{Names, Own, Place, Reg, TemplateRow}
 use Rattle.x86_forms.specs.declared.Form.TheVariants as form
 use Rattle.x86_forms.specs.declared.words.WordRow.{WordRow}
@@ -22,7 +22,7 @@ use Rattle.x86_operands.specs.Forms.{Follows, IsPlainRow, form_plan, is_direct, 
 use Rattle.x86_operands.specs.Rows.{form_rows}
 use Rattle.x86_operands.specs.Plans.{template_plan}
 use Rattle.x86_operands.specs.Templates.{is_read_at, is_sound_row}
-use Rattle.x86_operands.specs.Words.{otherwise}
+use Rattle.x86_operands.specs.Words.{AtModRM, otherwise}
 use Rattle.x86_operands.proofs.SureLemmas.{at_names, at_place, at_reg, first_chosen, first_of, is_read, is_sure, may_be, plan_is, present}
 
 -- ---- where the rows of a form are in the table

@@ -8,13 +8,12 @@ use Rattle.x86_fields.specs.declared.sizes.Width.TheVariants as width
 use Rattle.x86_regs.specs.declared.RegisterClass.TheVariants as class
 use Rattle.x86_fields.specs.Raw.{read_raw}
 use Rattle.x86_fields.specs.Steps.{Step, Outcome, outcome, then_from, pure, ◌>>=◌}
-use Rattle.x86_operands.specs.PlanSteps.{read_plan, read_memory, filled_step, operands_step, operand_step, known_operand}
+use Rattle.x86_operands.specs.PlanSteps.{address_step, read_plan, read_memory, filled_step, operands_step, operand_step, known_operand}
 use Rattle.x86_operands.specs.Plans.{template_plan}
 use Rattle.x86_operands.specs.Operands.{shape}
 use Rattle.x86_operands.specs.Encodings.{settled, size_bytes}
 use Rattle.x86_operands.specs.Templates.{encodings_in, fits_form, fixed_encoding, index_of_position, is_field, is_last, is_order, is_stack}
 use Rattle.x86_operands.specs.Templates.{reg_encoding, reg_part, rm_encoding, size_at, somewhere}
-use Rattle.x86_operands.specs.RowSteps.{skipped_if}
 use Rattle.x86_operands.specs.OperandList.{encoded_read, put_encoded, put_in, placed, reg_pair, rm_pair, fixed_pair, reading_with, rm_read}
 use Rattle.x86_operands.specs.OperandList.{sized, value_if_ok, last_read, leading_read, operands_read, other_read, all_read}
 use Rattle.x86_operands.proofs.OrderLemmas.{Named, no_named, named}
@@ -132,16 +131,6 @@ module _ (t : Template) (n : ℕ) (p : Prefixes) (m : ℕ) (size : ℕ) where
       (last_is t.order.last (settled t.last n p) p m (placed t n p m memory blank) s)
       ∙ others_are (placed t n p m memory blank) s orders
 
-  -- without an operand of rm, memory makes no difference
-  fixed_same : (of_opcode : Bool) (w : Width) (memory : Option Raw) →
-      known_operand (fixed_encoding of_opcode w n) p m memory ≡ known_operand (fixed_encoding of_opcode w n) p m None
-  fixed_same of_opcode w memory = grind arith
-
-  placed_same : (memory : Option Raw) (operand_list : Operands) → somewhere t.order.rm ≡ false →
-      placed t n p m memory operand_list ≡ placed t n p m None operand_list
-  placed_same memory operand_list h =
-      rw h (ap (λ x. put_in t.order.reg x operand_list) (fixed_same t.of_opcode t.reg memory))
-
   module _ {X : Type 0} (k : Operands → Step X) (h : is_order t.order ≡ true) (l : is_field t.last ≡ false) (e : is_field t.extra ≡ false) where
     abbrev planned : Option Raw → Step X
     planned memory = filled_step encodings p m memory >>= λ operand_list. k (with_size size operand_list)
@@ -159,21 +148,8 @@ module _ (t : Template) (n : ℕ) (p : Prefixes) (m : ℕ) (size : ℕ) where
     with_rm (Err x) s = refl
     with_rm (Ok memory) s = planned_is memory s
 
-    abbrev skipped : Option Raw → Step (Unit {0})
-    skipped memory = pure tt
-
-    without_rm : somewhere t.order.rm ≡ false → (r : Result (Option Raw) DecodeError) (s : State ℕ) →
-        then_from r s planned ≡ ((λ _. then_from r s skipped) >>= λ _. written (pure None)) s
-    without_rm nowhere (Err x) s = refl
-    without_rm nowhere (Ok memory) s = planned_is memory s ∙ ap (λ operand_list. (others operand_list >>= k) s) (placed_same memory blank nowhere)
-
-    by_rm : (rm : Bool) → somewhere t.order.rm ≡ rm → (s : State ℕ) →
-        (read_memory p m >>= planned) s ≡ (skipped_if (not rm) p m >>= λ _. written (if rm then read_memory p m else pure None)) s
-    by_rm true is s = with_rm (read_memory p m s).answer (read_memory p m s).after
-    by_rm false is s = without_rm is (read_memory p m s).answer (read_memory p m s).after
-
-    pub all_is_read : (s : State ℕ) → (read_memory p m >>= planned) s ≡ (skipped_if (not (somewhere t.order.rm)) p m >>= λ _. all_read t n p m blank >>= k) s
-    all_is_read s = by_rm (somewhere t.order.rm) refl s
+    pub all_is_read : (s : State ℕ) → (address_step t.order.rm p m >>= planned) s ≡ (all_read t n p m blank >>= k) s
+    all_is_read s = let memory : Outcome (Option Raw) = address_step t.order.rm p m s in with_rm memory.answer memory.after
 
 -- ---- at once
 
@@ -200,22 +176,15 @@ module _ (t : Template) (n : ℕ) (p : Prefixes) (m : ℕ) where
       let last : Outcome Operands = then_from first.answer first.after (other_read t.order.last t.last n p m) in
       no_extra t.order.extra t.extra n p m last.answer last.after e ∙ last_from t n p m first.answer first.after l
 
-  skips_nothing : (rm memory : Bool) (s : State ℕ) → is_memory m ≡ memory → (rm || not memory) ≡ true → skipped_if (not rm) p m s ≡ outcome (Ok tt) s
-  skips_nothing true memory s is h = refl
-  skips_nothing false false s is h = rw is refl
-  skips_nothing false true s is h = absurd (true≢false (sym h))
-
   pub plan_is_read : (opcode : ℕ) (s : State ℕ) → is_order t.order ≡ true → is_field t.last ≡ false → is_field t.extra ≡ false →
-      is_last t.last ≡ true → somewhere t.order.extra ≡ false → (somewhere t.order.rm || not (is_memory m)) ≡ true →
+      is_last t.last ≡ true → somewhere t.order.extra ≡ false →
       read_plan (template_plan t n opcode p m) p m s ≡
       (operands_read t n p m (sized t.order.count (size_bytes (size_at t m) opcode p)) >>= λ operand_list. pure (reading_with opcode p operand_list)) s
   unfolding read_plan
-  plan_is_read opcode s h l e last extra mem =
+  plan_is_read opcode s h l e last extra =
       let size : ℕ = size_bytes (size_at t m) opcode p in
       let k : Operands → Step Reading = λ operand_list. pure (reading_with opcode p operand_list) in
       all_is_read t n p m size k h l e s
-      ∙ ap (λ (u : Outcome (Unit {0})). then_from u.answer u.after (λ _. all_read t n p m (sized t.order.count size) >>= k))
-      (skips_nothing (somewhere t.order.rm) (is_memory m) s refl mem)
       ∙ ap (λ (u : Outcome Operands). then_from u.answer u.after k) (all_at_once (sized t.order.count size) s last extra)
 
   -- the operands of reg and rm end where SIB and displacement do
@@ -224,21 +193,13 @@ module _ (t : Template) (n : ℕ) (p : Prefixes) (m : ℕ) where
   ends_with_memory (Ok memory) u operand_list = refl
   ends_with_memory (Err x) u operand_list = refl
 
-  memory_by : (rm memory : Bool) (s : State ℕ) → is_memory m ≡ memory → (rm || not memory) ≡ true →
-      (if rm then read_memory p m else pure None) s ≡ read_memory p m s
-  memory_by true memory s is h = refl
-  memory_by false false s is h = rw is refl
-  memory_by false true s is h = absurd (true≢false (sym h))
-
-  pub leading_ends : (s : State ℕ) (operand_list : Operands) → (somewhere t.order.rm || not (is_memory m)) ≡ true →
-      (leading_read t n p m operand_list s).after ≡ (read_memory p m s).after
-  leading_ends s operand_list h =
-      let memory : Outcome (Option Raw) = (if somewhere t.order.rm then read_memory p m else pure None) s in
-      ends_with_memory memory.answer memory.after operand_list ∙ ap (λ o. o.after) (memory_by (somewhere t.order.rm) (is_memory m) s refl h)
+  pub leading_ends : (s : State ℕ) (operand_list : Operands) → (leading_read t n p m operand_list s).after ≡ (address_step t.order.rm p m s).after
+  leading_ends s operand_list =
+      let memory : Outcome (Option Raw) = address_step t.order.rm p m s in ends_with_memory memory.answer memory.after operand_list
 
   pub address_is_read : (s u : State ℕ) (r : Result Operands DecodeError) (operand_list : Operands) →
-      (somewhere t.order.rm || not (is_memory m)) ≡ true → outcome r u ≡ leading_read t n p m operand_list s → u ≡ (read_memory p m s).after
-  address_is_read s u r operand_list h e = ap (λ o. o.after) e ∙ leading_ends s operand_list h
+      outcome r u ≡ leading_read t n p m operand_list s → u ≡ (address_step t.order.rm p m s).after
+  address_is_read s u r operand_list e = ap (λ o. o.after) e ∙ leading_ends s operand_list
 
 -- ---- in place
 

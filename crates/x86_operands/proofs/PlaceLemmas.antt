@@ -9,7 +9,7 @@ use Rattle.x86_fields.proofs.StepLemmas.{advanced_twice}
 use Rattle.x86_operands.specs.declared.places.Places.{Places}
 use Rattle.x86_operands.specs.Asks.{modrm_of, uses_suffix}
 use Rattle.x86_operands.specs.Plans.{Plan, RowRecord}
-use Rattle.x86_operands.specs.PlanSteps.{read_memory, read_modrm, read_plan, record_step, refuse_fault}
+use Rattle.x86_operands.specs.PlanSteps.{read_modrm, read_plan, record_step, refuse_fault}
 use Rattle.x86_operands.specs.Pieces.{SpellsRow, SpellsTail, suffix_width}
 use Rattle.x86_operands.specs.Places.{Placed, place_of, plan_places, plan_placed, record_placed}
 use Rattle.x86_operands.specs.OperandList.{value_if_ok}
@@ -54,7 +54,7 @@ module _ (opcode_end : ℕ) (r : RowRecord) (p : Prefixes) where
         plan_placed opcode_end (r.plan m) p m t ≡ outcome (Ok (reading, pieces_places t)) (advanced (length a.tail) t)
     tail_places t h =
         let pieces = a.tail_spelled.pieces in
-        let address = (takes_memory p m pieces.address pieces.memory pieces.address_spelled).takes
+        let address = (takes_memory (r.plan m).order.rm p m pieces.address pieces.memory pieces.address_spelled).takes
         ((pieces.immediates ++ pieces.suffix) ++ rest) t
         (h ∙ ap (λ l. l ++ rest) pieces.spelled ∙ append_assoc pieces.address (pieces.immediates ++ pieces.suffix) rest) in
         rw ((takes_tail (r.plan m) p m a.tail reading a.tail_spelled).takes rest t h, address) refl

@@ -3,7 +3,7 @@ use Rattle.std.proofs.Common.{◌≡◌, ◌≢◌, ◌≤◌, inl, inr, ℕ, Er
 use Rattle.std.specs.List.{list_all}
 use Rattle.x86_arch.specs.Reader.{State}
 use Rattle.x86_fields.specs.declared.errors.DecodeError.TheVariants.{IncompleteDecoder}
-use Rattle.x86_operands.specs.Vocabulary.{Prefixes, Form, Incomplete, Moment, Refuses, TableRow, EitherForm}
+use Rattle.x86_operands.specs.Vocabulary.{Prefixes, Form, Incomplete, Refuses, TableRow, EitherForm}
 use Rattle.x86_forms.specs.declared.Form.TheVariants as form
 use Rattle.x86_forms.specs.Groups.{is_group}
 use Rattle.x86_operands.specs.PlanSteps.{record_step}
@@ -28,10 +28,10 @@ plain_passes : (row : TableRow) (p : Prefixes) (m : ℕ) → passes (is_group ro
 unfolding form_plan
 plain_passes row p m = rows_pass (is_group row.form) (form_rows row.form) row false p m (rows_fit row.form)
 
-pub plain_built : (row : TableRow) (p : Prefixes) (m : ℕ) (w : Moment) → is_group row.form ≡ false → ((form_record row p).plan m).verdict ≢ Refuses Incomplete w
+pub plain_built : (row : TableRow) (p : Prefixes) (m : ℕ) → is_group row.form ≡ false → ((form_record row p).plan m).verdict ≢ Refuses Incomplete
 unfolding form_record
-plain_built row p m w plain e =
-    without_gap (form_plan row p m) w (ap (λ g. passes g (form_plan row p m)) (sym plain) ∙ plain_passes row p m) e
+plain_built row p m plain e =
+    without_gap (form_plan row p m) (ap (λ g. passes g (form_plan row p m)) (sym plain) ∙ plain_passes row p m) e
 
 pub plain_small : (row : TableRow) (p : Prefixes) (m : ℕ) → ((form_record row p).plan m).size ≤ 64
 unfolding form_record
@@ -49,4 +49,4 @@ plain_read row p s plain h = by (row_left_out (form_record row p) p s h)
   where
     by : HasGap (form_record row p) p → ⊥
     by (inl e) = absurd cc
-    by (inr (m, w, e)) = plain_built row p m w plain e
+    by (inr (m, e)) = plain_built row p m plain e

@@ -2,14 +2,14 @@
 use Rattle.std.proofs.Common.{◌≡◌, ◌≢◌, ℕ, ◌⊎◌, inl, inr, List, [], ◌++◌, length, Some, Result, Ok, Err, sym, ap, subst, ◌∙◌, arith}
 use Rattle.std.proofs.lemmas.List.{append-nil}
 use Rattle.x86_arch.specs.Reader.{State, advanced}
-use Rattle.x86_operands.specs.Vocabulary.{DecodeError, Prefixes, Fault, BadOpcode, Incomplete, Moment, AtModRM, AfterAddress, AfterSuffix, Refuses, Reading}
+use Rattle.x86_operands.specs.Vocabulary.{DecodeError, Prefixes, Fault, BadOpcode, Incomplete, Refuses, Reading}
 use Rattle.x86_fields.specs.declared.errors.DecodeError.TheVariants.{ExhaustedInput, InvalidPrefixes, TooLong, IncompleteDecoder}
 use Rattle.x86_fields.specs.Steps.{outcome}
 use Rattle.x86_fields.proofs.EndLemmas.{Ends, settles, runs_out, longest}
 use Rattle.x86_operands.specs.Plans.{RowRecord}
 use Rattle.x86_operands.specs.PlanSteps.{record_step, error_of}
 use Rattle.x86_operands.specs.Asks.{modrm_of}
-use Rattle.x86_operands.specs.Pieces.{SpellsRow, RefusesTail, at_modrm, after_address, after_suffix, no_name, RefusesRow, at_opcode}
+use Rattle.x86_operands.specs.Pieces.{SpellsRow, RefusesTail, after_pieces, no_name, RefusesRow, at_opcode}
 use Rattle.x86_operands.specs.Pieces.{past_opcode, BetweenRow, IsReadRow, IsRefusedRow, IsOpenRow}
 use Rattle.x86_operands.proofs.RecordLemmas.{RowYields, ends_row, takes_row, takes_row_refused, halts_row}
 
@@ -23,7 +23,7 @@ one_gap f e = grind arith
 module _ (r : RowRecord) (p : Prefixes) where
   -- a record or one of its plans refuses as left out
   abbrev pub HasGap : Type 0
-  HasGap = (r.at_opcode ≡ Some Incomplete) ⊎ ((m : ℕ) × (w : Moment) × ((r.plan m).verdict ≡ Refuses Incomplete w))
+  HasGap = (r.at_opcode ≡ Some Incomplete) ⊎ ((m : ℕ) × ((r.plan m).verdict ≡ Refuses Incomplete))
 
   module _ (s : State ℕ) where
     -- what was settled on the first bytes, if the answer is this
@@ -82,9 +82,7 @@ module _ (r : RowRecord) (p : Prefixes) where
     row_has_no_length h = let is = row_refused TooLong h (λ e. cc) in (no_fault is.fault).1 (sym is.named)
 
     gap_of_tail : (m : ℕ) (tail : List ℕ) (f : Fault) → f ≡ Incomplete → RefusesTail (r.plan m) p m tail f → HasGap
-    gap_of_tail m tail f is (at_modrm e _) = inr (m, AtModRM, e ∙ ap (λ x. Refuses x AtModRM) is)
-    gap_of_tail m tail f is (after_address _ e _) = inr (m, AfterAddress, e ∙ ap (λ x. Refuses x AfterAddress) is)
-    gap_of_tail m tail f is (after_suffix e _) = inr (m, AfterSuffix, e ∙ ap (λ x. Refuses x AfterSuffix) is)
+    gap_of_tail m tail f is (after_pieces e _) = inr (m, e ∙ ap (λ x. Refuses x) is)
     gap_of_tail m tail f is (no_name _ _ _ e) = let named : BadOpcode ≡ Incomplete = sym e ∙ is in absurd cc
 
     gap_of_row : (bytes : List ℕ) (f : Fault) → f ≡ Incomplete → RefusesRow r p bytes f → HasGap

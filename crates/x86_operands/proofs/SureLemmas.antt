@@ -3,13 +3,13 @@ use Rattle.std.proofs.Common.{◌≡◌, ℕ, zero, suc, nat_le, ◌==◌, Bool,
 use Rattle.std.proofs.Common.{slice_index_or, refl, arith}
 use Rattle.std.proofs.lemmas.Bool.{and_parts}
 use Rattle.x86_operands.specs.Vocabulary.{Prefixes, TableRow, Template, Size, OperandEncoding, Width, Verdict, Accepts, PrefixChange, Keeps}
-use Rattle.x86_operands.specs.Vocabulary.{BadOpcode, AtModRM, reg_field, is_memory}
+use Rattle.x86_operands.specs.Vocabulary.{BadOpcode, reg_field, is_memory}
 use Rattle.x86_operands.specs.RowVocabulary.{TemplateRow, Rm, Names, ByReg, Place, Memory, Register, Reg, When}
 use Rattle.x86_operands.specs.declared.rows.Reg.TheVariants as regs
 use Rattle.x86_operands.specs.declared.rows.Rm.TheVariants as rms
 use Rattle.x86_operands.specs.declared.rows.When.TheVariants as when
 use Rattle.x86_operands.specs.declared.sizing.Size.TheVariants as size
-use Rattle.x86_operands.specs.Words.{otherwise}
+use Rattle.x86_operands.specs.Words.{AtModRM, otherwise}
 use Rattle.x86_operands.specs.Columns.{choose, is_there, is_placed, is_reg, is_rm, is_prefixed, is_named, name_at, opcode_of, plan_of_row}
 use Rattle.x86_forms.specs.Words.{carried}
 use Rattle.x86_operands.specs.Encodings.{settled, size_bytes}

@@ -12,7 +12,7 @@ use Rattle.x86_fields.specs.Pieces.{total}
 use Rattle.x86_operands.specs.Columns.{is_placed, plan_of_row}
 use Rattle.x86_operands.specs.Encodings.{settled}
 use Rattle.x86_operands.specs.Plans.{plan_encodings}
-use Rattle.x86_operands.specs.Templates.{encoding_at, encodings_in, letters_in, fits_form, fixed_encoding, index_of_position, is_field, is_last}
+use Rattle.x86_operands.specs.Templates.{encoding_at, encodings_in, letters_in, fits_form, has_address, fixed_encoding, index_of_position, is_field, is_last}
 use Rattle.x86_operands.specs.Templates.{is_order, is_simple, is_read_at, is_sound, is_register_place, is_sound_row, is_stack, reg_encoding}
 use Rattle.x86_operands.specs.Templates.{reg_part, rm_encoding, somewhere}
 use Rattle.x86_operands.specs.Asks.{immediate_width, immediates_width, part_width, plan_ask, uses_modrm, uses_suffix}
@@ -94,14 +94,14 @@ pub row_has_ask : (row : TemplateRow) (usage : ModrmUse) (own : TableRow) (p : P
     plan_ask usage m (plan_of_row row own p m)
     ≡ record {
       modrm = uses_modrm usage;
-      memory = is_memory m;
+      memory = has_address row.template.order.rm m;
       immediate = part_width row.template.order.last
           (settled row.template.last (carried own.form) p) + part_width row.template.order.extra
           (settled row.template.extra (carried own.form) p);
       suffix = uses_suffix row.verdict;
     }
 row_has_ask row usage own p m h =
-    ap (λ n. record { modrm = uses_modrm usage; memory = is_memory m; immediate = n; suffix = uses_suffix row.verdict })
+    ap (λ n. record { modrm = uses_modrm usage; memory = has_address row.template.order.rm m; immediate = n; suffix = uses_suffix row.verdict })
     (row_width row own p m (sound_template row h))
 
 -- ---- a test of operands that goes neither by prefixes nor by the number of the opcode byte

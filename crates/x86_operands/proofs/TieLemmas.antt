@@ -2,7 +2,7 @@
 use Rattle.std.proofs.Common.{◌≡◌, ℕ, zero, suc, ◌<◌, ◌≤◌, true, List, [], ◌∷◌, length, Option, Some, None, Ok, slice_index_or, refl, sym}
 use Rattle.std.proofs.Common.{ap, subst, ◌∙◌, arith}
 use Rattle.std.proofs.lemmas.List.{length-take}
-use Rattle.x86_operands.specs.Vocabulary.{Prefixes, Raw, Slot, Operand, OperandEncoding, Reading}
+use Rattle.x86_operands.specs.Vocabulary.{Position, Prefixes, Raw, Slot, Operand, OperandEncoding, Reading}
 use Rattle.x86_arch.specs.Reader.{State}
 use Rattle.x86_operands.specs.declared.operands.Slot.TheVariants as slots
 use Rattle.x86_operands.specs.declared.operands.Operand.TheVariants as operands
@@ -74,10 +74,10 @@ memory_at (s ∷ rest) p m raw bytes operand_pairs (suc k) h e =
     subst (λ l. HasShape l (suc k) raw) (sym h.yields) (omega arith, t.1)
 
 -- 67 of the raw fields is that of the prefixes
-same_address_size : (p : Prefixes) (m : ℕ) (bytes : List ℕ) (memory : Option Raw) (raw : Raw) → SpellsMemory p m bytes memory →
+same_address_size : (at : Position) (p : Prefixes) (m : ℕ) (bytes : List ℕ) (memory : Option Raw) (raw : Raw) → SpellsMemory at p m bytes memory →
     memory ≡ Some raw → raw.address_size ≡ p.address_size
-same_address_size p m bytes None raw h e = absurd cc
-same_address_size p m bytes (Some other) raw h e =
+same_address_size at p m bytes None raw h e = absurd cc
+same_address_size at p m bytes (Some other) raw h e =
     let same : other ≡ raw = cc in
     let fields = h.1.fields in
     ap (λ x. x.address_size) (sym same ∙ fields)
@@ -146,7 +146,7 @@ module _ (r : RowRecord) (p : Prefixes) (bytes : List ℕ) (reading : Reading) (
   module _ (raw : Raw) (memory : row_spelled.tail_spelled.pieces.memory ≡ Some raw) where
     -- 67 of the raw fields is that of the prefixes
     pub memory_size_is : raw.address_size ≡ p.address_size
-    memory_size_is = same_address_size p m row_spelled.tail_spelled.pieces.address row_spelled.tail_spelled.pieces.memory raw
+    memory_size_is = same_address_size plan.order.rm p m row_spelled.tail_spelled.pieces.address row_spelled.tail_spelled.pieces.memory raw
         row_spelled.tail_spelled.pieces.address_spelled memory
 
     -- the slot and the operand, where an operand encoding names the memory of ModRM

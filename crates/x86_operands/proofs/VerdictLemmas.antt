@@ -1,14 +1,15 @@
--- The refusal of a plan at its moment, and the opcode that a suffix names.
+-- The refusal of a plan, and the opcode that a suffix names.
 use Rattle.std.proofs.Common.{◌≡◌, ◌≢◌, ℕ, Bool, true, false, if◌then◌else◌, List, [], ◌∷◌, ◌++◌, length, Option, Some, None, Result, Ok}
 use Rattle.std.proofs.Common.{Err, refl, sym, ap, subst, ◌∙◌, arith}
 use Rattle.std.proofs.lemmas.List.{append-nil, nil_from_length}
 use Rattle.std.specs.Option.{option_map_or}
-use Rattle.x86_operands.specs.Vocabulary.{DecodeError, Moment, Fault, BadOpcode, Verdict, Accepts, NamedBySuffix, Refuses}
+use Rattle.x86_operands.specs.Vocabulary.{DecodeError, Fault, BadOpcode, Verdict, Accepts, NamedBySuffix, Refuses}
 use Rattle.x86_fields.specs.declared.errors.DecodeError.TheVariants.{ExhaustedInput, InvalidOpcode}
 use Rattle.x86_fields.specs.Steps.{Step, pure, refuse, ◌>>=◌, next_byte}
 use Rattle.x86_fields.proofs.StepLemmas.{Takes, takes_pure, takes_bind, takes_byte}
-use Rattle.x86_fields.proofs.EndLemmas.{EndsWell, IsEmpty, IsByte, ends_byte, ends_pure, ends_refuse, ends_then, Halts, halts_bind, halts_refused}
-use Rattle.x86_operands.specs.PlanSteps.{suffix_opcode, refuse_at, read_opcode, same_moment, error_of}
+use Rattle.x86_fields.proofs.EndLemmas.{EndsWell, IsEmpty, IsByte, ends_byte, ends_pure, ends_refuse, ends_then}
+use Rattle.x86_operands.specs.PlanSteps.{suffix_opcode, refuse_by, read_opcode, error_of}
+use Rattle.x86_operands.specs.Plans.{is_refusal}
 use Rattle.x86_operands.specs.Pieces.{suffix_width, opcode_by}
 
 pub fault_error : (f : Fault) → error_of f ≢ ExhaustedInput
@@ -21,54 +22,22 @@ Faults P e = (fault : Fault) × (e ≡ error_of fault) × P fault
 abbrev pub Never : List ℕ → Type 0
 Never q = ⊥
 
--- ---- a refusal at its moment
+-- ---- the refusal of a row that refuses
 
-abbrev pub refuses_at : Verdict → Moment → Bool
-refuses_at Accepts at = false
-refuses_at NamedBySuffix at = false
-refuses_at (Refuses fault moment) at = same_moment moment at
+abbrev pub IsVerdict : Verdict → List ℕ → Result (Unit {0}) DecodeError → Type 0
+IsVerdict v q (Ok x) = (q ≡ []) × (is_refusal v ≡ false)
+IsVerdict v q (Err e) = (q ≡ []) × Faults (λ fault. v ≡ Refuses fault) e
 
-abbrev pub IsVerdict : Verdict → Moment → List ℕ → Result (Unit {0}) DecodeError → Type 0
-IsVerdict v at q (Ok x) = (q ≡ []) × (refuses_at v at ≡ false)
-IsVerdict v at q (Err e) = (q ≡ []) × Faults (λ fault. v ≡ Refuses fault at) e
+pub ends_verdict : (v : Verdict) → EndsWell (IsVerdict v) Never (refuse_by v)
+ends_verdict (Refuses f) = ends_refuse (IsVerdict (Refuses f)) Never (error_of f) (fault_error f) (refl, (f, refl, refl))
+ends_verdict v = ends_pure (IsVerdict v) Never tt (refl, refl)
 
-one_moment : (a b : Moment) → same_moment a b ≡ true → a ≡ b
-one_moment a b e = grind arith
+pub takes_passed : (v : Verdict) → is_refusal v ≡ false → Takes (refuse_by v) [] (Ok tt)
+takes_passed (Refuses f) e = cc
+takes_passed v e = takes_pure (Ok tt)
 
-verdict_by : (test : Bool) (f : Fault) (moment at : Moment) → same_moment moment at ≡ test →
-    EndsWell (IsVerdict (Refuses f moment) at) Never (if test then refuse (error_of f) else pure tt)
-verdict_by true f moment at e = ends_refuse (IsVerdict (Refuses f moment) at) Never (error_of f) (fault_error f)
-    (refl, (f, refl, ap (λ a. Refuses f a) (one_moment moment at e)))
-verdict_by false f moment at e = ends_pure (IsVerdict (Refuses f moment) at) Never tt (refl, e)
-
-pub ends_verdict : (v : Verdict) (at : Moment) → EndsWell (IsVerdict v at) Never (refuse_at v at)
-ends_verdict (Refuses f moment) at = verdict_by (same_moment moment at) f moment at refl
-ends_verdict v at = ends_pure (IsVerdict v at) Never tt (refl, refl)
-
-pub takes_passed : (v : Verdict) (at : Moment) → refuses_at v at ≡ false → Takes (refuse_at v at) [] (Ok tt)
-takes_passed (Refuses f moment) at e = rw e (takes_pure (Ok tt))
-takes_passed v at e = takes_pure (Ok tt)
-
-same_self : (at : Moment) → same_moment at at ≡ true
-same_self at = grind arith
-
-pub takes_refused : (v : Verdict) (f : Fault) (at : Moment) → v ≡ Refuses f at → Takes (refuse_at v at) [] (Err (error_of f))
-takes_refused v f at e = rw (e, same_self at) (takes_pure (Err (error_of f)))
-
--- a step after a moment halts where it is reached, or the verdict refuses before it
-pub halts_verdict : {Y : Type 0} (v : Verdict) (at : Moment) (f : Unit {0} → Step Y) (q : List ℕ)
-    → (refuses_at v at ≡ false → Halts (f tt) q) → Halts (refuse_at v at >>= f) q
-halts_verdict (Refuses fault moment) at f q go = by (same_moment moment at) refl
-  where
-    v : Verdict
-    v = Refuses fault moment
-
-    by : (test : Bool) → same_moment moment at ≡ test → Halts (refuse_at v at >>= f) q
-    by true e =
-        let is : v ≡ Refuses fault at = ap (λ a. Refuses fault a) (one_moment moment at e) in
-        halts_refused (refuse_at v at) f q (error_of fault) (fault_error fault) (takes_refused v fault at is)
-    by false e = halts_bind (refuse_at v at) f [] q tt (takes_passed v at e) (go e)
-halts_verdict v at f q go = halts_bind (refuse_at v at) f [] q tt (takes_passed v at refl) (go refl)
+pub takes_refused : (v : Verdict) (f : Fault) → v ≡ Refuses f → Takes (refuse_by v) [] (Err (error_of f))
+takes_refused v f e = rw e (takes_pure (Err (error_of f)))
 
 -- ---- the opcode
 

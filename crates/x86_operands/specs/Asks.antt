@@ -3,10 +3,11 @@ use Rattle.std.specs.Prelude.{ℕ, Bool, true, false, Option, List, [], ◌∷�
 use Rattle.std.specs.Int.{byte_len}
 use Rattle.std.specs.Option.{option_map_or}
 use Rattle.x86_operands.specs.Vocabulary.{Verdict, NamedBySuffix, ModrmUse, Absent, EitherForm, Registers, Ask}
-use Rattle.x86_operands.specs.Vocabulary.{RecordAt, OperandEncoding, Position, Nowhere, is_memory, absent_modrm, as_register}
+use Rattle.x86_operands.specs.Vocabulary.{RecordAt, OperandEncoding, Position, Nowhere, absent_modrm, as_register}
 use Rattle.x86_fields.specs.Pieces.{total, option_bytes}
 use Rattle.x86_operands.specs.Plans.{Plan, RowRecord, plan_encodings}
 use Rattle.x86_operands.specs.PlanSteps.{immediate_read}
+use Rattle.x86_operands.specs.Templates.{has_address}
 
 abbrev pub uses_modrm : ModrmUse → Bool
 uses_modrm Absent = false
@@ -47,7 +48,7 @@ used_modrm usage m = modrm_of usage (m ∷ [])
 abbrev pub plan_ask : ModrmUse → ℕ → Plan → Ask
 plan_ask usage m plan = record {
   modrm = uses_modrm usage;
-  memory = is_memory m;
+  memory = has_address plan.order.rm m;
   immediate = immediates_width plan;
   suffix = uses_suffix plan.verdict;
 }

@@ -3,10 +3,10 @@
 -- letters of operands mean is in PlanSteps. Source: Intel SDM volume 2, appendix A.4 (the columns of its tables of opcode
 -- extensions).
 use Rattle.std.specs.Prelude.{ℕ, nat_le, ◌==◌, Bool, true, not, ◌&&◌, ◌||◌, if◌then◌else◌, List, [], ◌∷◌, slice_index_or, unwrap_or}
-use Rattle.x86_operands.specs.Vocabulary.{Prefixes, TableRow, BadOpcode, AtModRM, reg_field, rm_field, is_memory, operand_size}
+use Rattle.x86_operands.specs.Vocabulary.{Prefixes, TableRow, BadOpcode, reg_field, rm_field, is_memory, operand_size}
 use Rattle.x86_operands.specs.Vocabulary.{address_size, has_r, has_w, has_b, repnz, rep}
 use Rattle.x86_operands.specs.RowVocabulary.{ByReg, ByRm, Memory, Name, Names, Own, Place, Reg, Register, Rm, TemplateRow, When}
-use Rattle.x86_operands.specs.Words.{otherwise}
+use Rattle.x86_operands.specs.Words.{AtModRM, otherwise}
 use Rattle.x86_opcodes.specs.Names.{Invalid}
 use Rattle.x86_opcodes.specs.Numbers.{opcode_numbered}
 use Rattle.x86_forms.specs.Words.{carried}

@@ -10,7 +10,7 @@ use Rattle.x86_operands.specs.Encodings.{settled}
 use Rattle.x86_operands.specs.Templates.{index_of_position, reg_part, rm_encoding, somewhere}
 use Rattle.x86_operands.specs.declared.operands.Slot.TheVariants as slots
 use Rattle.x86_operands.specs.declared.operands.Operand.TheVariants as operands
-use Rattle.x86_operands.specs.PlanSteps.{four_of, known_operand, operand_step, read_memory}
+use Rattle.x86_operands.specs.PlanSteps.{address_step, four_of, known_operand, operand_step, read_memory}
 
 -- what was written, where the reading is Ok
 abbrev pub value_if_ok : {X : Type 0} → Result (Unit {0}) DecodeError → X → Result X DecodeError
@@ -76,8 +76,7 @@ abbrev pub rm_read : Position → Width → Prefixes → ℕ → Operands → St
 rm_read at w p m operand_list = read_memory p m >>= λ memory. pure (put_in at (known_operand (rm_encoding w) p m memory) operand_list)
 
 abbrev pub leading_read : Template → ℕ → Prefixes → ℕ → Operands → Step Operands
-leading_read t n p m operand_list =
-    (if somewhere t.order.rm then read_memory p m else pure None) >>= λ memory. pure (placed t n p m memory operand_list)
+leading_read t n p m operand_list = address_step t.order.rm p m >>= λ memory. pure (placed t n p m memory operand_list)
 
 -- what a template writes that has nothing but what is read at once
 abbrev pub operands_read : Template → ℕ → Prefixes → ℕ → Operands → Step Operands

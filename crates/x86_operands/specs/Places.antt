@@ -2,11 +2,11 @@
 use Rattle.std.specs.Prelude.{ℕ, ◌%◌, false}
 use Rattle.x86_arch.specs.Reader.{State}
 use Rattle.x86_fields.specs.Steps.{Step, then_from, pure, ◌>>=◌}
-use Rattle.x86_operands.specs.Vocabulary.{Prefixes, Reading}
+use Rattle.x86_operands.specs.Vocabulary.{Position, Prefixes, Reading}
 use Rattle.x86_operands.specs.declared.places.Places.{Places}
 use Rattle.x86_operands.specs.Asks.{uses_suffix}
 use Rattle.x86_operands.specs.Plans.{Plan, RowRecord}
-use Rattle.x86_operands.specs.PlanSteps.{read_memory, read_plan, read_modrm, refuse_fault}
+use Rattle.x86_operands.specs.PlanSteps.{address_step, read_plan, read_modrm, refuse_fault}
 
 abbrev pub no_places : Places
 no_places = record { opcode_end = 0; address_end = 0; has_suffix = false }
@@ -16,12 +16,13 @@ abbrev pub place_of : ℕ → ℕ
 place_of offset = offset % 256
 
 -- the place after SIB and displacement, where they are next
-abbrev pub place_after_address : Prefixes → ℕ → State ℕ → ℕ
-place_after_address p m s = place_of (read_memory p m s).after.since_mark
+abbrev pub place_after_address : Position → Prefixes → ℕ → State ℕ → ℕ
+place_after_address at p m s = place_of (address_step at p m s).after.since_mark
 
 -- the places, where what the plan has after ModRM is next
 abbrev pub plan_places : Plan → Prefixes → ℕ → State ℕ → ℕ → Places
-plan_places plan p m s opcode_end = record { opcode_end = opcode_end; address_end = place_after_address p m s; has_suffix = uses_suffix plan.verdict }
+plan_places plan p m s opcode_end =
+    record { opcode_end = opcode_end; address_end = place_after_address plan.order.rm p m s; has_suffix = uses_suffix plan.verdict }
 
 -- what is read, and its places
 abbrev pub Placed : Type 0

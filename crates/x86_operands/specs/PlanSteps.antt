@@ -4,7 +4,7 @@ use Rattle.std.specs.Int.{Width, w8, w16, w32, w64, cast_signed}
 use Rattle.std.specs.Option.{option_map_or}
 use Rattle.x86_operands.specs.Vocabulary.{RegSpec, RegisterClass, DecodeError, Prefixes, Raw, Slot, Operand, RegisterSlot, PointerSlot}
 use Rattle.x86_operands.specs.Vocabulary.{OperandEncoding, G, Gmm, E, Emm, I8, I16, I32, I64, I32From16, I64Whole, U8, U16, X8, X16}
-use Rattle.x86_operands.specs.Vocabulary.{ConstantI8, ConstantU8, Address32, Address64, Moment, AtModRM, AfterAddress, AfterSuffix, Fault}
+use Rattle.x86_operands.specs.Vocabulary.{ConstantI8, ConstantU8, Address32, Address64, Position, Fault}
 use Rattle.x86_operands.specs.Vocabulary.{BadOpcode, BadOperand, Incomplete, Verdict, NamedBySuffix, Refuses, PrefixChange, Keeps}
 use Rattle.x86_operands.specs.Vocabulary.{ClearsOperandSize, SetsEs, ModrmUse, Absent, EitherForm, Registers, Reading, Operands}
 use Rattle.x86_operands.specs.Vocabulary.{reg_spec, reg_field, rm_field, is_memory, absent_modrm, as_register, register_of, class_of}
@@ -21,6 +21,7 @@ use Rattle.x86_operands.specs.declared.plans.RegisterSlot.TheVariants as reg_slo
 use Rattle.x86_operands.specs.declared.plans.PointerSlot.TheVariants as pointer
 use Rattle.x86_operands.specs.Operands.{shape}
 use Rattle.x86_operands.specs.Plans.{Plan, RowRecord, plan_encodings, reg_number, rm_number}
+use Rattle.x86_operands.specs.Templates.{somewhere}
 use Rattle.std.specs.Map.{lookup}
 use Rattle.x86_opcodes.specs.Names.{PI2FW, PI2FD, PF2IW, PF2ID, PFNACC, PFPNACC, PFCMPGE, PFMIN, PFRCP, PFRSQRT, PFSUB, PFADD, PFCMPGT}
 use Rattle.x86_opcodes.specs.Names.{PFMAX, PFRCPIT1, PFRSQIT1, PFSUBR, PFACC, PFCMPEQ, PFMUL, PFRCPIT2, PMULHRW, PSWAPD, PAVGUSB}
@@ -143,16 +144,10 @@ error_of BadOpcode = InvalidOpcode
 error_of BadOperand = InvalidOperand
 error_of Incomplete = IncompleteDecoder
 
-abbrev pub same_moment : Moment → Moment → Bool
-same_moment AtModRM AtModRM = true
-same_moment AfterAddress AfterAddress = true
-same_moment AfterSuffix AfterSuffix = true
-same_moment a b = false
-
--- a refusal at its moment
-abbrev pub refuse_at : Verdict → Moment → Step (Unit {0})
-refuse_at (Refuses fault moment) at = if same_moment moment at then refuse (error_of fault) else pure tt
-refuse_at verdict at = pure tt
+-- the refusal of a row that refuses
+abbrev pub refuse_by : Verdict → Step (Unit {0})
+refuse_by (Refuses fault) = refuse (error_of fault)
+refuse_by verdict = pure tt
 
 -- ---- the opcode
 
@@ -165,6 +160,10 @@ read_opcode verdict opcode = pure opcode
 -- the memory operand's bytes, in the memory form
 abbrev pub read_memory : Prefixes → ℕ → Step (Option Raw)
 read_memory p m = if is_memory m then (read_raw p m >>= λ raw. pure (Some raw)) else pure None
+
+-- the same, where an operand is of rm
+abbrev pub address_step : Position → Prefixes → ℕ → Step (Option Raw)
+address_step at p m = if somewhere at then read_memory p m else pure None
 
 -- the prefixes with the record's change
 abbrev pub changed : PrefixChange → Prefixes → Prefixes
@@ -182,15 +181,13 @@ reading_from plan p opcode operand_pairs = record {
   prefixes = changed plan.change p;
 }
 
--- what a record has after its ModRM
+-- what a record has after its ModRM: its operands, and after them its refusal, if it refuses
 unfoldable pub read_plan : Plan → Prefixes → ℕ → Step Reading
 read_plan plan p m =
-    refuse_at plan.verdict AtModRM >>= λ _.
-    read_memory p m >>= λ memory.
-    refuse_at plan.verdict AfterAddress >>= λ _.
+    address_step plan.order.rm p m >>= λ memory.
     filled_step (plan_encodings plan) p m memory >>= λ operand_pairs.
     read_opcode plan.verdict plan.opcode >>= λ opcode.
-    refuse_at plan.verdict AfterSuffix >>= λ _.
+    refuse_by plan.verdict >>= λ _.
     pure (reading_from plan p opcode operand_pairs)
 
 -- ModRM as the row uses it: a byte that isn't there reads as C0, and one whose mod isn't looked at as mod 11

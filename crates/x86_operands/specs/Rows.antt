@@ -8,7 +8,7 @@ use Rattle.std.specs.Prelude.{List, [], ◌∷◌}
 use Rattle.x86_opcodes.specs.Names.{CBW, CDQ, CDQE, CQO, CWD, CWDE, ENQCMD, ENQCMDS, IRET, IRETD, IRETQ, JECXZ, LFS, LGS, LSS, MOVQ, NOP}
 use Rattle.x86_opcodes.specs.Names.{PEXTRD, PEXTRQ, PINSRD, PINSRQ}
 use Rattle.x86_fields.specs.declared.sizes.Width.TheVariants.{B, W, D, Q, X, V, Vq, Vd, Dq}
-use Rattle.x86_operands.specs.Vocabulary.{Form, BadOperand, Incomplete, AtModRM, AfterAddress, AfterSuffix, SetsEs}
+use Rattle.x86_operands.specs.Vocabulary.{Form, BadOperand, Incomplete, SetsEs}
 use Rattle.x86_operands.specs.RowVocabulary.{TemplateRow, Own, Name}
 use Rattle.x86_forms.specs.declared.Form.TheVariants as form
 use Rattle.x86_operands.specs.declared.plans.RegisterSlot.TheVariants.{Reg, Rm, Third}
@@ -20,8 +20,8 @@ use Rattle.x86_operands.specs.declared.plans.OperandEncoding.TheVariants.{Source
 use Rattle.x86_operands.specs.declared.rows.When.TheVariants.{Always, With66, With67, RexW, RexR, Register0, Opcode}
 use Rattle.x86_operands.specs.Words.{bare, mem, reg, both, both_at, both_from, Zero, One, Two, Three, M, U, Umm, Z, unsigned_one, three}
 use Rattle.x86_operands.specs.Words.{Bytes, of_dq, size, size_of}
-use Rattle.x86_operands.specs.Words.{size_v, size_dq, or_v, read, changing, refusing, refusal, otherwise, named_by_v, without_modrm}
-use Rattle.x86_operands.specs.Words.{with_modrm, with_memory, with_register}
+use Rattle.x86_operands.specs.Words.{size_v, size_dq, or_v, read, changing, refusal, otherwise, AtModRM, AfterAddress, named_by_v}
+use Rattle.x86_operands.specs.Words.{without_modrm, with_modrm, with_memory, with_register}
 
 -- of the plain forms none is left to the last line, for groups
 unfoldable pub form_rows : Form → List TemplateRow
@@ -183,5 +183,5 @@ form_rows form.Edq_G_xmm =
 -- a memory form is refused after the immediate
 form_rows form.Rv_Gmm_Ib =
     read reg Always Own (Three (G D) Umm U8) size_v ∷
-    refusing both Always (Three (G D) Umm U8) BadOperand AfterSuffix ∷ []
+    otherwise BadOperand (Three (G D) Umm U8) ∷ []
 form_rows f = otherwise Incomplete AtModRM ∷ []

@@ -28,6 +28,10 @@ abbrev pub somewhere : Position → Bool
 somewhere Nowhere = false
 somewhere at = true
 
+-- SIB and displacement are there in the memory form, where an operand is of rm
+abbrev pub has_address : Position → ℕ → Bool
+has_address at m = somewhere at && is_memory m
+
 abbrev pub reg_part : Template → ℕ → OperandEncoding
 reg_part t n = if somewhere t.order.rm then reg_encoding t.reg else fixed_encoding t.of_opcode t.reg n
 

@@ -21,7 +21,6 @@ pub use Rattle.x86_operands.specs.declared.plans.RegisterSlot.{RegisterSlot}
 pub use Rattle.x86_operands.specs.declared.plans.PointerSlot.{PointerSlot}
 pub use Rattle.x86_operands.specs.declared.plans.OperandEncoding.{OperandEncoding}
 pub use Rattle.x86_operands.specs.declared.plans.Fault.{Fault}
-pub use Rattle.x86_operands.specs.declared.plans.Moment.{Moment}
 pub use Rattle.x86_operands.specs.declared.plans.Verdict.{Verdict}
 pub use Rattle.x86_operands.specs.declared.plans.PrefixChange.{PrefixChange}
 pub use Rattle.x86_operands.specs.declared.plans.ModrmUse.{ModrmUse}
@@ -38,7 +37,6 @@ pub use Rattle.x86_operands.specs.declared.asks.RecordAt.{RecordAt}
 pub use Rattle.x86_operands.specs.declared.plans.OperandEncoding.TheVariants.{G, Gmm, E, Emm, I8, I16, I32, I64, I32From16, I64Whole, U8}
 pub use Rattle.x86_operands.specs.declared.plans.OperandEncoding.TheVariants.{U16, X8, X16, ConstantI8, ConstantU8, Address32, Address64}
 pub use Rattle.x86_operands.specs.declared.plans.Fault.TheVariants.{BadOpcode, BadOperand, Incomplete}
-pub use Rattle.x86_operands.specs.declared.plans.Moment.TheVariants.{AtModRM, AfterAddress, AfterSuffix}
 pub use Rattle.x86_operands.specs.declared.plans.Verdict.TheVariants.{Accepts, NamedBySuffix, Refuses}
 pub use Rattle.x86_operands.specs.declared.plans.PrefixChange.TheVariants.{Keeps, ClearsOperandSize, SetsEs}
 pub use Rattle.x86_operands.specs.declared.plans.ModrmUse.TheVariants.{Absent, EitherForm, Registers}

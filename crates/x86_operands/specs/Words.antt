@@ -6,7 +6,7 @@ use Rattle.x86_fields.specs.declared.sizes.Width.TheVariants as width
 use Rattle.x86_operands.specs.declared.sizing.Size.TheVariants as sizes
 use Rattle.x86_operands.specs.declared.sizing.Size.TheVariants.{V, Vq, Dq}
 use Rattle.x86_opcodes.specs.Names.{Invalid}
-use Rattle.x86_operands.specs.Vocabulary.{OperandEncoding, RegisterSlot, Width, Fault, Moment, BadOperand, AtModRM, AfterAddress, PrefixChange}
+use Rattle.x86_operands.specs.Vocabulary.{OperandEncoding, RegisterSlot, Width, Fault, BadOperand, PrefixChange}
 use Rattle.x86_operands.specs.Vocabulary.{Keeps, Size, Template, Verdict, Accepts, NamedBySuffix, Refuses}
 use Rattle.x86_operands.specs.Vocabulary.{Position, First, Second, Third, Fourth, Nowhere}
 use Rattle.x86_operands.specs.RowVocabulary.{Bare, ByReg, ByRm, Either, Memory, Name, Names, Own, Place, Reg, Register, Rm, TemplateRow, When, Where}
@@ -245,16 +245,19 @@ changing change at when names operands size = row at when names operands size ch
 abbrev pub suffixed : Where → When → Template → Size × Size → TemplateRow
 suffixed at when operands size = row at when (Name Invalid) operands size Keeps NamedBySuffix
 
--- A row that is refused, and after which byte; the operands are those whose bytes it has. `otherwise` is wherever no row
--- before it is.
-abbrev pub refusing : Where → When → Template → Fault → Moment → TemplateRow
-refusing at when operands fault moment = row at when (Name Invalid) operands (size 0) Keeps (Refuses fault moment)
+-- What a row takes after ModRM before it is refused: nothing, or SIB and displacement.
+abbrev pub AtModRM : Template
+AtModRM = Zero
 
-abbrev pub refusal : Where → When → Fault → Moment → TemplateRow
-refusal at when fault moment = refusing at when Zero fault moment
+abbrev pub AfterAddress : Template
+AfterAddress = One M
 
-abbrev pub otherwise : Fault → Moment → TemplateRow
-otherwise fault moment = refusal both Always fault moment
+-- A row that is refused, with the operands whose bytes it takes before. `otherwise` is wherever no row before it is.
+abbrev pub refusal : Where → When → Fault → Template → TemplateRow
+refusal at when fault operands = row at when (Name Invalid) operands (size 0) Keeps (Refuses fault)
+
+abbrev pub otherwise : Fault → Template → TemplateRow
+otherwise fault operands = refusal both Always fault operands
 
 -- ---- forms with one row that is read, whose name is that of the opcode map
 
@@ -273,7 +276,7 @@ named_by_v word double quad =
 
 -- a register form is refused after ModRM, and a memory form after its address
 abbrev pub with_memory : Template → Size × Size → List TemplateRow
-with_memory operands size = read mem Always Own operands size ∷ refusing both Always operands BadOperand AtModRM ∷ []
+with_memory operands size = read mem Always Own operands size ∷ otherwise BadOperand AtModRM ∷ []
 
 abbrev pub with_register : Template → Size × Size → List TemplateRow
-with_register operands size = read reg Always Own operands size ∷ refusing both Always operands BadOperand AfterAddress ∷ []
+with_register operands size = read reg Always Own operands size ∷ otherwise BadOperand AfterAddress ∷ []

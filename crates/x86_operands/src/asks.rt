@@ -36,7 +36,7 @@ pub struct RecordAt {
     pub modrm: ModRM,
     /// Which parts the row has.
     pub ask: Ask,
-    /// Whether the row is read or refused after ModRM.
+    /// Whether the row is read or refused.
     pub verdict: Verdict,
 }
 
@@ -105,7 +105,7 @@ impl TemplateRow {
         let num = own.form.carried();
         Ask {
             modrm: usage.has_modrm(),
-            memory: modrm.is_memory(),
+            memory: order.rm.is_somewhere() && modrm.is_memory(),
             immediate: part_width(order.last, last, num, prefixes)
                 + part_width(order.extra, extra, num, prefixes),
             suffix: self.has_suffix(),

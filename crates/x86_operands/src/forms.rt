@@ -84,7 +84,7 @@ pub fn chosen_row(own: &TableRow, prefixes: &Prefixes, modrm: ModRM) -> Template
 /// Reads what a row has after its opcode byte, where its form is a plain form: ModRM, the memory operand, the
 /// immediates.
 ///
-/// The bytes taken are exactly those that the record has; after a refusal, those up to its moment; at
+/// The bytes taken are exactly those that the record has; after a refusal, those that it takes before; at
 /// `ExhaustedInput`, the pieces before the first that isn't whole.
 #[tactic(auto, unfolding(crate::specs::Forms::form_record, crate::specs::PlanSteps::record_step))]
 pub fn read_form<T: Reader<u64, u8>>(

@@ -9,7 +9,7 @@ ghost use Rattle.x86_fields.specs.Linear.{raw_form, value_at};
 ghost use Rattle.x86_fields.specs.Pieces.{total};
 ghost use Rattle.x86_fields.specs.Steps.{outcome};
 ghost use Rattle.x86_forms.specs.Groups.{is_group};
-ghost use Rattle.x86_operands.specs.Vocabulary.{DecodeError, Fault, Incomplete, Moment, Prefixes, Raw, Reading, Refuses, TableRow, address_size};
+ghost use Rattle.x86_operands.specs.Vocabulary.{DecodeError, Fault, Incomplete, Prefixes, Raw, Reading, Refuses, TableRow, address_size};
 ghost use Rattle.x86_operands.specs.Columns.{is_prefixed};
 ghost use Rattle.x86_operands.specs.Forms.{form_record};
 ghost use Rattle.x86_operands.specs.Operands.{operand_form, operand_address, shape};
@@ -39,8 +39,8 @@ pub fn plain_forms_pass_the_opcode()
 /// `IncompleteDecoder`.
 #[tactic(auto, using(crate::proofs::PlainLemmas::plain_built, crate::proofs::PlainLemmas::plain_read))]
 pub fn plain_forms_are_built()
-    ensures plan { (row : TableRow) (p : Prefixes) (m : ℕ) (w : Moment) →
-        is_group row.form ≡ false → ((form_record row p).plan m).verdict ≢ Refuses Incomplete w }
+    ensures plan { (row : TableRow) (p : Prefixes) (m : ℕ) →
+        is_group row.form ≡ false → ((form_record row p).plan m).verdict ≢ Refuses Incomplete }
     ensures answer { (row : TableRow) (p : Prefixes) (s : State ℕ) → is_group row.form ≡ false →
         (record_step (form_record row p) p s).answer ≢ Err IncompleteDecoder }
 {}
@@ -70,8 +70,8 @@ pub fn shapes_have_the_address()
 {}
 
 /// What `read_form` and `read_group` take, and any reader of a record. On Ok these are the pieces that the record
-/// has, wherever the bytes begin with them; after a refusal those up to its moment; and at `ExhaustedInput` those
-/// before the first that isn't whole.
+/// has, wherever the bytes begin with them; after a refusal those that the record takes before; and at
+/// `ExhaustedInput` those before the first that isn't whole.
 #[tactic(auto, using(crate::proofs::RowLemmas::row_read, crate::proofs::RowLemmas::row_refused, crate::proofs::RowLemmas::row_open))]
 pub fn rows_are_read()
     ensures whole { (r : RowRecord) (p : Prefixes) (s : State ℕ) (reading : Reading) →
@@ -101,7 +101,7 @@ pub fn rows_refuse_by_faults()
         (record_step r p s).answer ≢ Err TooLong }
     ensures left_out { (r : RowRecord) (p : Prefixes) (s : State ℕ) →
         (record_step r p s).answer ≡ Err IncompleteDecoder → (r.at_opcode ≡ Some Incomplete)
-        ⊎ ((m : ℕ) × (w : Moment) × ((r.plan m).verdict ≡ Refuses Incomplete w)) }
+        ⊎ ((m : ℕ) × ((r.plan m).verdict ≡ Refuses Incomplete)) }
 {}
 
 /// A reading has at most four operands. None of them is `Nothing`, masked, rounded or an unsigned immediate of 32 or

@@ -336,7 +336,8 @@ impl Operands {
             (template_plan template.now num opcode prefixes.now modrm) prefixes.now modrm
             (T.state reader.old) }
         ensures address { OnOk result
-            (address_end.new ≡ place_after_address prefixes.now modrm (T.state reader.old)) }
+            (address_end.new ≡ place_after_address template.now.order.rm prefixes.now modrm
+            (T.state reader.old)) }
     {
         let fields = PrefixedModRM::of(prefixes, modrm);
         self.read_first(reader, template, opcode, num, &fields, address_end)?;

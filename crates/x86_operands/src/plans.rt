@@ -113,17 +113,6 @@ impl OperandEncoding {
 
 const B: RegisterClass = RegisterClass::B;
 
-/// After which byte a record refuses.
-#[derive(Clone, Copy, Drop)]
-pub enum Moment {
-    /// After ModRM.
-    AtModRM,
-    /// After SIB and displacement.
-    AfterAddress,
-    /// After the last byte that the row has.
-    AfterSuffix,
-}
-
 /// Why a record refuses. No record refuses for want of bytes or for length.
 #[derive(Clone, Copy, Drop)]
 pub enum Fault {
@@ -138,7 +127,8 @@ pub enum Verdict {
     Accepts,
     /// A last byte names the opcode, as in 3DNow, or is refused.
     NamedBySuffix,
-    Refuses(Fault, Moment),
+    /// It refuses after the bytes of its operands.
+    Refuses(Fault),
 }
 
 /// What a record changes in the prefixes of its answer.

@@ -6,19 +6,17 @@ ghost use Rattle.x86_fields.specs.Steps.{outcome};
 ghost use Rattle.x86_forms.specs.Words.{IsForm};
 ghost use Rattle.x86_operands.specs.Columns.{is_placed, plan_of_row};
 ghost use Rattle.x86_operands.specs.Places.{plan_places};
-ghost use Rattle.x86_operands.specs.PlanSteps.{changed, suffix_opcode, refuse_at, read_opcode, read_plan, read_modrm, refuse_fault};
+ghost use Rattle.x86_operands.specs.PlanSteps.{changed, suffix_opcode, refuse_by, read_opcode, read_plan, read_modrm, refuse_fault};
 ghost use Rattle.x86_operands.specs.Asks.{uses_suffix};
-ghost use Rattle.x86_operands.specs.RowSteps.{address_skipped, early_step, skips_address};
 ghost use Rattle.x86_operands.specs.Templates.{is_sound_row};
 
 use crate::operand_list::Operands;
-use crate::order::Position;
 use crate::places::Places;
-use crate::plans::{Fault, ModrmUse, Moment, PrefixChange, Verdict};
+use crate::plans::{Fault, ModrmUse, PrefixChange, Verdict};
 use crate::rows::TemplateRow;
 use crate::{Operand, Slot, used_modrm};
 use x86_arch::Reader;
-use x86_fields::{DecodeError, ModRM, Prefixes, next_byte, read_raw};
+use x86_fields::{DecodeError, ModRM, Prefixes, next_byte};
 use x86_forms::TableRow;
 use x86_opcodes::Opcode;
 
@@ -51,12 +49,12 @@ pub fn refuse_fault(fault: Option<Fault>) -> Result<(), DecodeError>
     }
 }
 
-/// The refusal of a row, at its moment.
-fn refuse_at(verdict: Verdict, at: Moment) -> Result<(), DecodeError>
-    ensures { (s : State ℕ) → outcome result s ≡ refuse_at verdict at s }
+/// The refusal of a row that refuses.
+fn refuse_by(verdict: Verdict) -> Result<(), DecodeError>
+    ensures { (s : State ℕ) → outcome result s ≡ refuse_by verdict s }
 {
     match verdict {
-        Verdict::Refuses(fault, moment) if moment == at => refuse_fault(Some(fault)),
+        Verdict::Refuses(fault) => refuse_fault(Some(fault)),
         _ => Ok(()),
     }
 }
@@ -109,23 +107,8 @@ fn read_opcode<T: Reader<u64, u8>>(
             let byte = next_byte(reader)?;
             suffix_opcode(byte).ok_or(DecodeError::InvalidOpcode)
         }
-        Verdict::Accepts | Verdict::Refuses(_, _) => Ok(opcode),
+        Verdict::Accepts | Verdict::Refuses(_) => Ok(opcode),
     }
-}
-
-/// SIB and displacement, where no operand has them.
-fn skip_address<T: Reader<u64, u8>>(
-    reader: &mut T,
-    prefixes: &Prefixes,
-    modrm: ModRM,
-) -> Result<(), DecodeError>
-    ensures { outcome result (T.state reader.new)
-        ≡ address_skipped prefixes.now modrm (T.state reader.old) }
-{
-    if modrm.is_memory() {
-        read_raw(reader, prefixes, modrm.byte())?;
-    }
-    Ok(())
 }
 
 impl PrefixChange {
@@ -147,32 +130,6 @@ impl TemplateRow {
         ensures { result ≡ uses_suffix self.now.verdict }
     {
         matches!(self.verdict, Verdict::NamedBySuffix)
-    }
-
-    /// Whether no operand has SIB and displacement: the row is refused before the operands, or there is none of rm.
-    fn skips_address(&self) -> bool
-        ensures { result ≡ skips_address self.now }
-    {
-        matches!(self.verdict, Verdict::Refuses(_, Moment::AfterAddress))
-            || matches!(self.template.order.rm, Position::Nowhere)
-    }
-
-    /// The refusals before the operands, and what no operand has.
-    fn refuse_early<T: Reader<u64, u8>>(
-        &self,
-        reader: &mut T,
-        prefixes: &Prefixes,
-        modrm: ModRM,
-    ) -> Result<(), DecodeError>
-        ensures { outcome result (T.state reader.new)
-            ≡ early_step self.now prefixes.now modrm (T.state reader.old) }
-    {
-        refuse_at(self.verdict, Moment::AtModRM)?;
-        if self.skips_address() {
-            skip_address(reader, prefixes, modrm)?;
-            return refuse_at(self.verdict, Moment::AfterAddress);
-        }
-        refuse_at(self.verdict, Moment::AfterAddress)
     }
 
     /// What the row has after its ModRM, written into blank operands, and the places of its parts; `own` is the row in
@@ -201,7 +158,6 @@ impl TemplateRow {
             (plan_of_row self.now own.now prefixes.old modrm) prefixes.old modrm
             (T.state reader.old) places.old.opcode_end) }
     {
-        self.refuse_early(reader, prefixes, modrm)?;
         operand_list.read_all(
             reader,
             &self.template,
@@ -212,7 +168,7 @@ impl TemplateRow {
         )?;
         places.has_suffix = self.has_suffix();
         *opcode = read_opcode(reader, self.verdict, self.opcode(own, modrm))?;
-        refuse_at(self.verdict, Moment::AfterSuffix)?;
+        refuse_by(self.verdict)?;
         *prefixes = self.change.of(prefixes);
         Ok(())
     }

@@ -91,7 +91,7 @@ pub struct TemplateRow {
     pub at: Where,
     pub when: When,
     pub names: Names,
-    /// The operands and the memory size. The operands of a row that refuses are those whose bytes it has.
+    /// The operands and the memory size. A row that refuses takes the bytes of its operands before.
     pub template: Template,
     /// What changes in the prefixes of the answer.
     pub change: PrefixChange,
@@ -191,7 +191,7 @@ pub fn choose(
             return *row;
         }
     }
-    refused!(Either Reg::Any, Rm::Any; When::Always; NO B false B OperandEncoding::ABSENT, OperandEncoding::ABSENT; BadOpcode AtModRM)
+    refused!(Either Reg::Any, Rm::Any; When::Always; NO B false B OperandEncoding::ABSENT, OperandEncoding::ABSENT; BadOpcode)
 }
 
 impl TemplateRow {

@@ -22,7 +22,7 @@ const THREE: OperandEncoding = ConstantU8(3);
 
 /// The rows of all forms, after that of a form that has none.
 pub(crate) const ROWS: &[TemplateRow; 157] = &[
-    refused!(Either Reg::Any, Rm::Any; Always; NO B false B ABSENT, ABSENT; Incomplete AtModRM),
+    refused!(Either Reg::Any, Rm::Any; Always; NO B false B ABSENT, ABSENT; Incomplete),
     read!(Bare Reg::Any, Rm::Any; Always; Own; R Vq true B ABSENT, ABSENT; Eight Eight), // Zv_R
     read!(Bare Reg::Any, Rm::Any; Register0; Name(76); NO B false B ABSENT, ABSENT; Zero Zero), // Zv_AX_R NOP
     read!(Bare Reg::Any, Rm::Any; Always; Own; R_I V false B Z(RegisterSlot::Rm, V, 0), ABSENT; Zero Zero), // Zv_AX_R
@@ -47,15 +47,15 @@ pub(crate) const ROWS: &[TemplateRow; 157] = &[
     read!(Bare Reg::Any, Rm::Any; With66; Own; I_X B false B Implied(RegisterSlot::Reg, 2, RegisterClass::W), At(PointerSlot::Deref, 6, RegisterClass::Q); Two Two), // DX_Xv
     read!(Bare Reg::Any, Rm::Any; Always; Own; I_X B false B Implied(RegisterSlot::Reg, 2, RegisterClass::W), At(PointerSlot::Deref, 6, RegisterClass::Q); Four Four), // DX_Xv
     read!(Bare Reg::Any, Rm::Any; Always; Own; I B false B I8, ABSENT; Zero Zero), // Ibs
-    refused!(Either Reg::Any, Rm::Any; RexR; NO B false B ABSENT, ABSENT; BadOperand AfterAddress), // Ew_Sw
+    refused!(Either Reg::Any, Rm::Any; RexR; E B false Q ABSENT, ABSENT; BadOperand), // Ew_Sw
     read!(Either Reg::From(0, 5), Rm::Any; Always; Own; E_I B false D Sr, ABSENT; Two V), // Ew_Sw
-    refused!(Either Reg::Any, Rm::Any; Always; NO B false B ABSENT, ABSENT; BadOperand AfterAddress), // Ew_Sw
+    refused!(Either Reg::Any, Rm::Any; Always; E B false Q ABSENT, ABSENT; BadOperand), // Ew_Sw
     read!(Memory Reg::Any, Rm::Any; Always; Own; G_E V false Q ABSENT, ABSENT; V V), // Gv_M
-    refused!(Either Reg::Any, Rm::Any; Always; G_E V false Q ABSENT, ABSENT; BadOperand AtModRM), // Gv_M
-    refused!(Either Reg::Any, Rm::Any; RexR; NO B false B ABSENT, ABSENT; BadOperand AfterAddress), // Sw_Ew
-    refused!(Either Reg::Is(1), Rm::Any; Always; NO B false B ABSENT, ABSENT; BadOperand AfterAddress), // Sw_Ew
+    refused!(Either Reg::Any, Rm::Any; Always; NO B false B ABSENT, ABSENT; BadOperand), // Gv_M
+    refused!(Either Reg::Any, Rm::Any; RexR; E B false Q ABSENT, ABSENT; BadOperand), // Sw_Ew
+    refused!(Either Reg::Is(1), Rm::Any; Always; E B false Q ABSENT, ABSENT; BadOperand), // Sw_Ew
     read!(Either Reg::From(0, 5), Rm::Any; Always; Own; I_E B false W Sr, ABSENT; Two V), // Sw_Ew
-    refused!(Either Reg::Any, Rm::Any; Always; NO B false B ABSENT, ABSENT; BadOperand AfterAddress), // Sw_Ew
+    refused!(Either Reg::Any, Rm::Any; Always; E B false Q ABSENT, ABSENT; BadOperand), // Sw_Ew
     read!(Bare Reg::Any, Rm::Any; RexW; Name(429); NO B false B ABSENT, ABSENT; Zero Zero), // CVT_AA CDQE
     read!(Bare Reg::Any, Rm::Any; With66; Name(427); NO B false B ABSENT, ABSENT; Zero Zero), // CVT_AA CBW
     read!(Bare Reg::Any, Rm::Any; Always; Name(442); NO B false B ABSENT, ABSENT; Zero Zero), // CVT_AA CWDE
@@ -109,7 +109,7 @@ pub(crate) const ROWS: &[TemplateRow; 157] = &[
     read!(Memory Reg::Any, Rm::Any; Opcode(391); Own; G_E Q false Q ABSENT, ABSENT; SixtyFour SixtyFour), // INV_Gv_M ENQCMD
     read!(Memory Reg::Any, Rm::Any; Opcode(389); Own; G_E Q false Q ABSENT, ABSENT; SixtyFour SixtyFour), // INV_Gv_M ENQCMDS
     read!(Memory Reg::Any, Rm::Any; Always; Own; G_E Q false Q ABSENT, ABSENT; Sixteen Sixteen), // INV_Gv_M
-    refused!(Either Reg::Any, Rm::Any; Always; NO B false B ABSENT, ABSENT; BadOperand AtModRM), // INV_Gv_M
+    refused!(Either Reg::Any, Rm::Any; Always; NO B false B ABSENT, ABSENT; BadOperand), // INV_Gv_M
     read!(Either Reg::Any, Rm::Any; Always; Own; G_E V false B ABSENT, ABSENT; One Zero), // Gv_Eb
     read!(Either Reg::Any, Rm::Any; Always; Own; G_E V false W ABSENT, ABSENT; Two Zero), // Gv_Ew
     read!(Either Reg::Any, Rm::Any; Always; Own; G_E D false D ABSENT, ABSENT; Four V), // Gd_Ed
@@ -117,12 +117,12 @@ pub(crate) const ROWS: &[TemplateRow; 157] = &[
     read!(Either Reg::Any, Rm::Any; Always; Own; G_E X false X ABSENT, ABSENT; Duplicate V), // G_E_xmm
     read!(Either Reg::Any, Rm::Any; Always; Own; E_G X false X ABSENT, ABSENT; Sixteen V), // E_G_xmm
     read!(Memory Reg::Any, Rm::Any; Always; Own; E_G X false Q ABSENT, ABSENT; Stream Stream), // M_G_xmm
-    refused!(Either Reg::Any, Rm::Any; Always; E_G X false Q ABSENT, ABSENT; BadOperand AtModRM), // M_G_xmm
+    refused!(Either Reg::Any, Rm::Any; Always; NO B false B ABSENT, ABSENT; BadOperand), // M_G_xmm
     read!(Either Reg::Any, Rm::Any; Always; Own; G_E X false Mm ABSENT, ABSENT; Eight V), // G_xmm_E_mm
     read!(Either Reg::Any, Rm::Any; Always; Own; G_E Mm false X ABSENT, ABSENT; Sixteen V), // G_mm_E_xmm
     read!(Either Reg::Any, Rm::Any; Always; Own; G_E X false X ABSENT, ABSENT; Extend V), // PMOVX_G_E_xmm
     read!(Register Reg::Any, Rm::Any; Always; Own; G_E D false X ABSENT, ABSENT; V V), // Gd_U_xmm
-    refused!(Either Reg::Any, Rm::Any; Always; G_E D false X ABSENT, ABSENT; BadOperand AfterAddress), // Gd_U_xmm
+    refused!(Either Reg::Any, Rm::Any; Always; E B false Q ABSENT, ABSENT; BadOperand), // Gd_U_xmm
     read!(Either Reg::Any, Rm::Any; Always; Own; G_E Mm false Dq ABSENT, ABSENT; V V), // G_mm_Edq
     read!(Either Reg::Any, Rm::Any; Always; Own; G_E Mm false Mm ABSENT, ABSENT; Eight V), // G_mm_E
     read!(Either Reg::Any, Rm::Any; Always; Own; G_E_I Mm false Mm I8, ABSENT; Eight Zero), // G_E_mm_Ib
@@ -132,45 +132,45 @@ pub(crate) const ROWS: &[TemplateRow; 157] = &[
     read!(Either Reg::Any, Rm::Any; Always; Own; E_G Mm false Mm ABSENT, ABSENT; Eight V), // E_G_mm
     read!(Either Reg::Any, Rm::Any; Always; Own; G_E_I X false X I8, ABSENT; Scalar V), // G_E_xmm_Ib
     read!(Memory Reg::Any, Rm::Any; Always; Own; E_G Dq false Q ABSENT, ABSENT; Dq Dq), // Mdq_Gdq
-    refused!(Either Reg::Any, Rm::Any; Always; E_G Dq false Q ABSENT, ABSENT; BadOperand AtModRM), // Mdq_Gdq
+    refused!(Either Reg::Any, Rm::Any; Always; NO B false B ABSENT, ABSENT; BadOperand), // Mdq_Gdq
     read!(Either Reg::Any, Rm::Any; Always; Own; G_E_I Mm false D I8, ABSENT; Two V), // G_mm_Ew_Ib
     read!(Register Reg::Any, Rm::Any; Always; Own; G_E_I D false Mm U8, ABSENT; V V), // Rv_Gmm_Ib
-    refused!(Either Reg::Any, Rm::Any; Always; G_E_I D false Mm U8, ABSENT; BadOperand AfterSuffix), // Rv_Gmm_Ib
+    refused!(Either Reg::Any, Rm::Any; Always; G_E_I D false Mm U8, ABSENT; BadOperand), // Rv_Gmm_Ib
     read!(Register Reg::Any, Rm::Any; Always; Own; G_E D false Mm ABSENT, ABSENT; V V), // G_U_mm
-    refused!(Either Reg::Any, Rm::Any; Always; G_E D false Mm ABSENT, ABSENT; BadOperand AfterAddress), // G_U_mm
+    refused!(Either Reg::Any, Rm::Any; Always; E B false Q ABSENT, ABSENT; BadOperand), // G_U_mm
     read!(Memory Reg::Any, Rm::Any; Always; Own; E_G Mm false Q ABSENT, ABSENT; Eight Eight), // G_Mq_mm
-    refused!(Either Reg::Any, Rm::Any; Always; E_G Mm false Q ABSENT, ABSENT; BadOperand AtModRM), // G_Mq_mm
+    refused!(Either Reg::Any, Rm::Any; Always; NO B false B ABSENT, ABSENT; BadOperand), // G_Mq_mm
     read!(Register Reg::Any, Rm::Any; Always; Own; G_E Mm false Mm ABSENT, ABSENT; Eight Eight), // G_mm_U_mm
-    refused!(Either Reg::Any, Rm::Any; Always; G_E Mm false Mm ABSENT, ABSENT; BadOperand AfterAddress), // G_mm_U_mm
+    refused!(Either Reg::Any, Rm::Any; Always; E B false Q ABSENT, ABSENT; BadOperand), // G_mm_U_mm
     read!(Either Reg::Any, Rm::Any; Always; Own; G_E X false Dq ABSENT, ABSENT; V V), // G_xmm_Edq
     read!(Register Reg::Any, Rm::Any; Always; Own; G_E X false X ABSENT, ABSENT; V V), // G_U_xmm
-    refused!(Either Reg::Any, Rm::Any; Always; G_E X false X ABSENT, ABSENT; BadOperand AfterAddress), // G_U_xmm
+    refused!(Either Reg::Any, Rm::Any; Always; E B false Q ABSENT, ABSENT; BadOperand), // G_U_xmm
     read!(Either Reg::Any, Rm::Any; RexW; Name(220); E_G X false Dq ABSENT, ABSENT; Dq V), // Edq_G_xmm MOVQ
     read!(Either Reg::Any, Rm::Any; Always; Own; E_G X false Dq ABSENT, ABSENT; Dq V), // Edq_G_xmm
     read!(Either Reg::Any, Rm::Any; Always; Own; G_E_I X false D U8, ABSENT; Two V), // G_xmm_Ew_Ib
     read!(Register Reg::Any, Rm::Any; Always; Own; G_E_I D false X U8, ABSENT; V V), // G_U_xmm_Ub
-    refused!(Either Reg::Any, Rm::Any; Always; G_E_I D false X U8, ABSENT; BadOperand AfterAddress), // G_U_xmm_Ub
+    refused!(Either Reg::Any, Rm::Any; Always; E B false Q ABSENT, ABSENT; BadOperand), // G_U_xmm_Ub
     read!(Either Reg::Any, Rm::Any; Always; Own; E_G X false X ABSENT, ABSENT; Eight V), // PMOVX_E_G_xmm
     read!(Register Reg::Any, Rm::Any; Always; Own; G_E X false X ABSENT, ABSENT; Sixteen Sixteen), // MASKMOVDQU
-    refused!(Either Reg::Any, Rm::Any; Always; G_E X false X ABSENT, ABSENT; BadOperand AfterAddress), // MASKMOVDQU
+    refused!(Either Reg::Any, Rm::Any; Always; E B false Q ABSENT, ABSENT; BadOperand), // MASKMOVDQU
     read!(Either Reg::Any, Rm::Any; Always; Own; G_E X false X ABSENT, ABSENT; Four V), // G_Ed_xmm
     read!(Either Reg::Any, Rm::Any; Always; Own; E_G X false X ABSENT, ABSENT; Four V), // Ed_G_xmm
     read!(Either Reg::Any, Rm::Any; Always; Own; G_E V false X ABSENT, ABSENT; Four V), // Gv_E_xmm
     read!(Either Reg::Any, Rm::Any; Always; Own; G_E X false X ABSENT, ABSENT; Eight V), // MOVQ_f30f
     read!(Register Reg::Any, Rm::Any; Always; Own; G_E X false Mm ABSENT, ABSENT; V V), // G_xmm_U_mm
-    refused!(Either Reg::Any, Rm::Any; Always; G_E X false Mm ABSENT, ABSENT; BadOperand AfterAddress), // G_xmm_U_mm
+    refused!(Either Reg::Any, Rm::Any; Always; E B false Q ABSENT, ABSENT; BadOperand), // G_xmm_U_mm
     read!(Either Reg::Any, Rm::Any; Always; Own; G_E V false X ABSENT, ABSENT; Eight V), // Gdq_Eq_xmm
     read!(Register Reg::Any, Rm::Any; Always; Own; G_E Mm false X ABSENT, ABSENT; V V), // G_mm_U_xmm
-    refused!(Either Reg::Any, Rm::Any; Always; G_E Mm false X ABSENT, ABSENT; BadOperand AfterAddress), // G_mm_U_xmm
+    refused!(Either Reg::Any, Rm::Any; Always; E B false Q ABSENT, ABSENT; BadOperand), // G_mm_U_xmm
     read!(Memory Reg::Any, Rm::Any; Always; Own; G_E X false Q ABSENT, ABSENT; Sixteen Sixteen), // G_M_xmm
-    refused!(Either Reg::Any, Rm::Any; Always; G_E X false Q ABSENT, ABSENT; BadOperand AtModRM), // G_M_xmm
+    refused!(Either Reg::Any, Rm::Any; Always; NO B false B ABSENT, ABSENT; BadOperand), // G_M_xmm
     read!(Memory Reg::Any, Rm::Any; Always; Own; G_E X false Q ABSENT, ABSENT; Eight Eight), // G_Mq_xmm
-    refused!(Either Reg::Any, Rm::Any; Always; G_E X false Q ABSENT, ABSENT; BadOperand AtModRM), // G_Mq_xmm
+    refused!(Either Reg::Any, Rm::Any; Always; NO B false B ABSENT, ABSENT; BadOperand), // G_Mq_xmm
     read!(Memory Reg::Any, Rm::Any; Always; Own; E_G V false Q ABSENT, ABSENT; V V), // M_Gv
-    refused!(Either Reg::Any, Rm::Any; Always; E_G V false Q ABSENT, ABSENT; BadOperand AtModRM), // M_Gv
+    refused!(Either Reg::Any, Rm::Any; Always; NO B false B ABSENT, ABSENT; BadOperand), // M_Gv
     read!(Memory Reg::Any, Rm::Any; With67; Own; G_E D false Q ABSENT, ABSENT; SixtyFour SixtyFour), // MOVDIR64B
     read!(Memory Reg::Any, Rm::Any; Always; Own; G_E Q false Q ABSENT, ABSENT; SixtyFour SixtyFour), // MOVDIR64B
-    refused!(Either Reg::Any, Rm::Any; Always; NO B false B ABSENT, ABSENT; BadOperand AtModRM), // MOVDIR64B
+    refused!(Either Reg::Any, Rm::Any; Always; NO B false B ABSENT, ABSENT; BadOperand), // MOVDIR64B
     read!(Either Reg::Any, Rm::Any; Always; Own; G_E Dq false V ABSENT, ABSENT; Four V), // Gdq_Ev
     read!(Either Reg::Any, Rm::Any; Always; Own; G_E_I X false X U8, ABSENT; Sixteen V), // G_E_xmm_Ub
     read!(Either Reg::Any, Rm::Any; Always; Own; E_G_I X false V U8, ABSENT; Extract Extract), // Ev_G_xmm_Ib

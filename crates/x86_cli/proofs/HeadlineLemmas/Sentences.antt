@@ -18,7 +18,10 @@ use Rattle.x86_operands.specs.Asks.{modrm_of}
 use Rattle.x86_operands.specs.Pieces.{SpellsMemory, SpellsOperands, RefusesRow, modrm_width, suffix_width, opcode_by}
 use Rattle.x86_operands.specs.Plans.{RowRecord, is_refusal, plan_encodings}
 use Rattle.x86_operands.specs.PlanSteps.{four_of, reading_from}
+use Rattle.x86_operands.specs.Templates.{has_address}
+use Rattle.x86_operands.specs.declared.order.Position.{Position}
 use Rattle.x86_groups.specs.Groups.{record_of}
+use Rattle.x86_groups.proofs.AddressLemmas.{address_is}
 use Rattle.x86_decode.specs.declared.instructions.Instruction.{Instruction}
 use Rattle.x86_decode.specs.Instruction.{instruction_of}
 use Rattle.x86_decode.specs.Head.{Rows, escape_bytes, seen_by}
@@ -33,9 +36,10 @@ pub sib_by : (m : ℕ) (sib : Option ℕ) (disp : List ℕ) → is_memory m ≡ 
 sib_by m None disp memory there = rw (memory, sym there) refl
 sib_by m (Some b) disp memory there = rw (memory, sym there) refl
 
-pub sib_long : (p : Prefixes) (m : ℕ) (bytes : List ℕ) (memory : Option Raw) → SpellsMemory p m bytes memory → length (take (sib_width m) bytes) ≡ sib_width m
-sib_long p m bytes None h = rw h.0 refl
-sib_long p m bytes (Some raw) h = rw h.1.spelled (sib_by m h.1.sib h.1.disp h.0 h.1.sib_present)
+pub sib_long : (at : Position) (p : Prefixes) (m : ℕ) (bytes : List ℕ) (memory : Option Raw) → has_address at m ≡ is_memory m →
+    SpellsMemory at p m bytes memory → length (take (sib_width m) bytes) ≡ sib_width m
+sib_long at p m bytes None there h = rw (sym there ∙ h.0) refl
+sib_long at p m bytes (Some raw) there h = rw h.1.spelled (sib_by m h.1.sib h.1.disp (sym there ∙ h.0) h.1.sib_present)
 
 module _ (rows : Rows) (strict : Bool) where
   module _ (s : List ℕ) (reading : Reading) (w : Whole rows strict s reading) where
@@ -100,8 +104,9 @@ module _ (rows : Rows) (strict : Bool) where
           has_plan = refl;
           accepted = t.accepted;
           memory = t.pieces.memory;
-          address_spelled = subst (λ a. SpellsMemory p m a t.pieces.memory) (sym halves) t.pieces.address_spelled;
-          sib_length = sib_long p m t.pieces.address t.pieces.memory t.pieces.address_spelled;
+          address_spelled = subst (λ a. SpellsMemory (r.plan m).order.rm p m a t.pieces.memory) (sym halves) t.pieces.address_spelled;
+          sib_length = sib_long (r.plan m).order.rm p m t.pieces.address t.pieces.memory
+              (address_is strict w.row p w.row_spelled.modrm t.accepted) t.pieces.address_spelled;
           operands = t.pieces.operand_pairs;
           immediates_spelled = t.pieces.immediates_spelled;
           suffix_length = t.pieces.suffix_length;
@@ -156,8 +161,9 @@ module _ (rows : Rows) (strict : Bool) where
                 suffix = f.parts.suffix;
                 operand_pairs = f.operands;
                 spelled = refl;
-                address_spelled = subst (λ p. SpellsMemory p m address f.memory) f.sees
-                    (subst (λ m. SpellsMemory f.seen m address f.memory) modrm_is f.address_spelled);
+                address_spelled = subst (λ q. SpellsMemory q.order.rm p m address f.memory) plan_is
+                    (subst (λ p. SpellsMemory f.plan.order.rm p m address f.memory) f.sees
+                    (subst (λ m. SpellsMemory f.plan.order.rm f.seen m address f.memory) modrm_is f.address_spelled));
                 immediates_spelled = subst (λ q. SpellsOperands (plan_encodings q) p m f.memory f.parts.immediate f.operands) plan_is
                     (subst (λ p. SpellsOperands (plan_encodings f.plan) p m f.memory f.parts.immediate f.operands) f.sees
                     (subst (λ m. SpellsOperands (plan_encodings f.plan) f.seen m f.memory f.parts.immediate f.operands) modrm_is f.immediates_spelled));

@@ -17,7 +17,9 @@ use Rattle.x86_operands.specs.PlanSteps.{record_step}
 use Rattle.x86_operands.proofs.RecordLemmas.{takes_row}
 use Rattle.x86_decode.specs.declared.instructions.Instruction.{Instruction}
 use Rattle.x86_decode.specs.Head.{column_of, escape_bytes, is_opcode, seen_by}
+use Rattle.x86_fields.specs.Pieces.{option_bytes}
 use Rattle.x86_groups.specs.Groups.{record_of}
+use Rattle.x86_groups.proofs.AddressLemmas.{address_is}
 use Rattle.x86_decode.specs.Grammar.{allows_lock, places_of, IsAccepted, IsAnswer}
 use Rattle.x86_decode.specs.Instruction.{instruction_of}
 use Rattle.x86_decode.specs.Answer.{answer_of, count_of}
@@ -32,7 +34,7 @@ use Rattle.x86_layout.specs.Parts.Permitted.{map_named, entry_by, entry_at, entr
 use Rattle.x86_layout.specs.Parts.Permitted.{has_row_parts, tail_of, answer_allows_lock, has_lawful_lock, is_short, unless, failing_at}
 use Rattle.x86_layout.specs.Parts.Permitted.{first_failing, IsPermitted, ArePartsOfSentence}
 use Rattle.x86_layout.proofs.PartLemmas.Part.{cut_is}
-use Rattle.x86_layout.proofs.PartLemmas.OfBytes.{parts_are, parts_once, joined_is, lengths_of}
+use Rattle.x86_layout.proofs.PartLemmas.OfBytes.{parts_are, parts_once, joined_is, lengths_of, there_in}
 use Rattle.x86_layout.proofs.PartLemmas.Spell.{spelled, HoldsFields, passes, row_parts}
 
 -- ---- the first that fails
@@ -95,7 +97,7 @@ emitted_by : (strict : Bool) (f : fields.Fields) (e : Entry) (n : Names f e) →
 emitted_by strict f e n h =
     let q : Prefixes = seen_by n.map f.opcode (reading_of f.prefixes.items) in
     let r = record_of strict n.row q in
-    let s = spelled r q f h.1 h.2 in
+    let s = spelled r q f (address_is strict n.row q (option_bytes f.modrm)) h.1 h.2 in
     let whole : Encoding strict (joined (lists_in f)) s.reading = record {
       run = f.prefixes.items;
       map = n.map;
@@ -188,7 +190,7 @@ module _ {strict : Bool} {s : List ℕ} {reading : Reading} {w : Encoding strict
       let legal : has_legal_run f ≡ true = cc (h.prefixes, w.prefixes) in
       let short' : is_short f ≡ true = cc (joined_is h, (short_is (length s)).1 short) in
       ap (λ o. unless (has_legal_run f) error.Prefixes (failing_at strict o f)) entry_is
-      ∙ (all_pass (has_legal_run f) _ _ _ _).1 (legal, passes f w.row_spelled pieces, row_parts f w.row_spelled pieces, lock_is lock, short')
+      ∙ (all_pass (has_legal_run f) _ _ _ _).1 (legal, passes f w.row_spelled pieces, row_parts f w.row_spelled pieces (there_in w), lock_is lock, short')
 
 -- Emitting the fields of a split yields the encoding's very bytes.
 pub emitted_again : (strict : Bool) (bytes : List ℕ) (i : Instruction) (f : fields.Fields) →

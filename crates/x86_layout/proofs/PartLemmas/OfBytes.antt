@@ -1,5 +1,5 @@
 -- The parts of the encoding at the beginning of bytes: the pieces of any whole encoding there, and their lengths.
-use Rattle.std.proofs.Common.{◌≡◌, ℕ, Bool, true, if◌then◌else◌, List, [], ◌∷◌, ◌++◌, length, slice_index, Option, Some, None, is_some}
+use Rattle.std.proofs.Common.{◌≡◌, ℕ, Bool, true, false, if◌then◌else◌, List, [], ◌∷◌, ◌++◌, length, slice_index, Option, Some, None, is_some}
 use Rattle.std.proofs.Common.{refl, sym, ap, ◌∙◌, append_assoc, arith, take, Ok, subst, ◌≤◌, length-append}
 use Rattle.std.specs.List.{prefix_len}
 use Rattle.std.proofs.lemmas.Bool.{cond_both}
@@ -14,6 +14,9 @@ use Rattle.x86_operands.specs.declared.reader.Reading.{Reading}
 use Rattle.x86_operands.specs.Plans.{RowRecord}
 use Rattle.x86_operands.specs.Asks.{modrm_of, used_modrm, ask_of, immediates_width}
 use Rattle.x86_operands.specs.Pieces.{SpellsMemory, SpellsRow}
+use Rattle.x86_operands.specs.Templates.{has_address}
+use Rattle.x86_operands.specs.declared.order.Position.{Position}
+use Rattle.x86_operands.specs.declared.order.Position.TheVariants.{First}
 use Rattle.x86_decode.specs.Head.{escape_bytes, seen_by}
 use Rattle.x86_fields.specs.Parts.{PartLists, HasFieldLengths}
 use Rattle.x86_layout.specs.Parts.Heads.{one_if}
@@ -31,6 +34,7 @@ use Rattle.x86_forms.specs.Groups.{is_group}
 use Rattle.x86_operands.specs.Forms.{form_record}
 use Rattle.x86_operands.proofs.PlainLemmas.{plain_narrow}
 use Rattle.x86_groups.specs.Groups.{group_record, record_of}
+use Rattle.x86_groups.proofs.AddressLemmas.{address_is}
 use Rattle.x86_groups.proofs.GroupLemmas.{group_narrow}
 
 -- ---- SIB and displacement
@@ -48,17 +52,26 @@ option_count o = grind arith
 pub first_of : (o : Option ℕ) → first_byte (option_bytes o) ≡ o
 first_of o = grind arith
 
-address_parts : (p : Prefixes) (m : ℕ) (address : List ℕ) (memory : Option Raw) → SpellsMemory p m address memory → AddressParts m address
-address_parts p m address None h = record { sib = []; disp = []; spelled = h.1; sib_long = cc (h.0); disp_long = cc (h.0) }
-address_parts p m address (Some raw) h =
+address_parts : (at : Position) (p : Prefixes) (m : ℕ) (address : List ℕ) (memory : Option Raw) → has_address at m ≡ is_memory m →
+    SpellsMemory at p m address memory → AddressParts m address
+address_parts at p m address None there h =
+    let is : is_memory m ≡ false = sym there ∙ h.0 in record { sib = []; disp = []; spelled = h.1; sib_long = cc is; disp_long = cc is }
+address_parts at p m address (Some raw) there h =
+    let is : is_memory m ≡ true = sym there ∙ h.0 in
     let s = h.1 in
     record {
       sib = option_bytes s.sib;
       disp = s.disp;
       spelled = s.spelled;
-      sib_long = cc (option_count s.sib, s.sib_present, h.0);
-      disp_long = cc (s.disp_length, first_of s.sib, h.0);
+      sib_long = cc (option_count s.sib, s.sib_present, is);
+      disp_long = cc (s.disp_length, first_of s.sib, is);
     }
+
+-- so it is as where the operand of rm is the first one
+pub as_first : (at : Position) (p : Prefixes) (m : ℕ) (address : List ℕ) (memory : Option Raw) → has_address at m ≡ is_memory m →
+    SpellsMemory at p m address memory → SpellsMemory First p m address memory
+as_first at p m address None there h = (sym there ∙ h.0, h.1)
+as_first at p m address (Some raw) there h = (sym there ∙ h.0, h.1)
 
 -- in a memory form that is read as such, the byte is used as it is
 disp_by : (memory : Bool) (raw used : ℕ) (sib : Option ℕ) → (memory ≡ true → used ≡ raw) →
@@ -80,11 +93,15 @@ module _ {r : RowRecord} {p : Prefixes} {tail : List ℕ} {reading : Reading} (a
   abbrev m : ℕ
   m = modrm_of r.modrm a.modrm
 
+  -- the address is there in the memory form
+  abbrev pub IsThere : Type 0
+  IsThere = has_address (r.plan m).order.rm m ≡ is_memory m
+
   -- SIB as long as it says tells how long the displacement is
-  pub displacement_long : (sib disp : List ℕ) → sib ++ disp ≡ a.tail_spelled.pieces.address → length sib ≡ sib_width m →
+  pub displacement_long : IsThere → (sib disp : List ℕ) → sib ++ disp ≡ a.tail_spelled.pieces.address → length sib ≡ sib_width m →
       length disp ≡ (if is_memory m then displacement_width m (first_byte sib) else 0)
-  displacement_long sib disp e h =
-      let x = address_parts p m _ _ a.tail_spelled.pieces.address_spelled in
+  displacement_long there sib disp e h =
+      let x = address_parts (r.plan m).order.rm p m _ _ there a.tail_spelled.pieces.address_spelled in
       let same = halves sib disp x.sib x.disp (e ∙ x.spelled) (h ∙ sym x.sib_long) in
       cc (same.0, same.1, x.disp_long)
 
@@ -95,23 +112,29 @@ module _ {r : RowRecord} {p : Prefixes} {tail : List ℕ} {reading : Reading} (a
     begins : all ≡ a.modrm ++ (a.tail ++ rest)
     begins = e ∙ ap (λ l. l ++ rest) a.spelled ∙ append_assoc a.modrm a.tail rest
 
-    width_is : (sib : List ℕ) → displacement_length_by ask first sib ≡ (if is_memory m then displacement_width m (first_byte sib) else 0)
+    width_is : IsThere → (sib : List ℕ) → displacement_length_by ask first sib ≡ (if is_memory m then displacement_width m (first_byte sib) else 0)
     unfolding ask_of
-    width_is sib =
+    width_is there sib =
         let u = r.modrm in
-        cc (k, disp_by (is_memory (used_modrm u first)) first (used_modrm u first) (first_byte sib) (as_it_is u first), read_as a (a.tail ++ rest) begins)
+        cc (
+          k,
+          disp_by (is_memory (used_modrm u first)) first (used_modrm u first) (first_byte sib) (as_it_is u first),
+          read_as a (a.tail ++ rest) begins,
+          there,
+        )
 
-    pub has_tail : HoldsPieces r p tail reading a (modrm_in ask all) (sib_in ask all) (displacement_in ask all) (immediate_in ask all) (suffix_in ask all)
-    has_tail =
+    pub has_tail : IsThere →
+        HoldsPieces r p tail reading a (modrm_in ask all) (sib_in ask all) (displacement_in ask all) (immediate_in ask all) (suffix_in ask all)
+    has_tail there =
         let more : List ℕ = a.tail ++ rest in
         let s = a.tail_spelled.pieces in
-        let x = address_parts p m _ _ s.address_spelled in
+        let x = address_parts (r.plan m).order.rm p m _ _ there s.address_spelled in
         let last : List ℕ = s.immediates ++ (s.suffix ++ rest) in
         let modrm = cut_is a.modrm more begins (modrm_count a more begins k) in
         let spelled : more ≡ x.sib ++ (x.disp ++ last) = ap (λ l. l ++ rest) s.spelled
         ∙ ap (λ l. (l ++ (s.immediates ++ s.suffix)) ++ rest) x.spelled ∙ simp append_assoc in
-        let sib = cut_is x.sib (x.disp ++ last) (modrm.1 ∙ spelled) (sib_count a more begins k ∙ sym x.sib_long) in
-        let disp = cut_is x.disp last sib.1 (ap (displacement_length_by ask first) sib.0 ∙ width_is x.sib ∙ sym x.disp_long) in
+        let sib = cut_is x.sib (x.disp ++ last) (modrm.1 ∙ spelled) (sib_count a more begins k there ∙ sym x.sib_long) in
+        let disp = cut_is x.disp last sib.1 (ap (displacement_length_by ask first) sib.0 ∙ width_is there x.sib ∙ sym x.disp_long) in
         let immediate = cut_is s.immediates (s.suffix ++ rest) disp.1 (immediate_count a more begins k) in
         let suffix = cut_is s.suffix rest immediate.1 (suffix_count a more begins k) in
         record { modrm = modrm.0; sib = ap length sib.0 ∙ x.sib_long; address = cc (sib.0, disp.0, x.spelled); immediate = immediate.0; suffix = suffix.0 }
@@ -152,13 +175,18 @@ has_head {strict = strict} {bytes = bytes} rest w begins =
           ∙ ap (λ o. ask_by strict o (seen_by w.map w.opcode (reading_of w.run)) first) w.has_row;
     }
 
+-- SIB and displacement of an encoding are there in the memory form.
+pub there_in : {strict : Bool} {s : List ℕ} {reading : Reading} (w : Encoding strict s reading) → IsThere w.row_spelled
+there_in {strict = strict} w =
+    address_is strict w.row (seen_by w.map w.opcode (reading_of w.run)) w.row_spelled.modrm w.row_spelled.tail_spelled.accepted
+
 -- The parts of bytes that begin with a whole encoding are its pieces.
 pub parts_are : {strict : Bool} {bytes s : List ℕ} (rest : List ℕ) {reading : Reading} (w : Encoding strict s reading) → bytes ≡ s ++ rest →
     HasParts strict s reading w (parts_of strict bytes)
 unfolding parts_of
 parts_are rest w begins =
     let h = has_head rest w begins in
-    let t = has_tail w.row_spelled rest h.tail h.ask in
+    let t = has_tail w.row_spelled rest h.tail h.ask (there_in w) in
     let escape = ap escape_bytes h.map in
     assumption (h, t, escape)
 
@@ -220,6 +248,9 @@ immediate_small strict row p m =
     cond_both (is_group row.form) (group_record strict row p) (form_record row p) (λ r. immediates_width (r.plan m) ≤ 8)
     (λ _. group_narrow strict row p m) (λ _. plain_narrow row p m)
 
+displacement_small : (m : ℕ) (sib : Option ℕ) (n : ℕ) → n ≡ (if is_memory m then displacement_width m sib else 0) → n ≤ 4
+displacement_small m sib n h = grind arith
+
 pub lengths_of : {strict : Bool} {s : List ℕ} {reading : Reading} {w : Encoding strict s reading} {p : PartLists} →
     HasParts strict s reading w p → length s ≤ 15 → HasFieldLengths p
 lengths_of {strict = strict} {w = w} {p = p} h short =
@@ -232,7 +263,7 @@ lengths_of {strict = strict} {w = w} {p = p} h short =
       opcode = ap length h.opcode;
       modrm = grind (arith, ap length h.modrm, a.modrm_length);
       sib = grind (arith, h.sib);
-      displacement = grind (arith, displacement_long a p.sib p.displacement h.address h.sib);
+      displacement = displacement_small m (first_byte p.sib) _ (displacement_long a (there_in w) p.sib p.displacement h.address h.sib);
       immediate = rw (ap length h.immediate ∙ immediates_long a) (immediate_small strict w.row _ m);
       suffix = grind (arith, ap length h.suffix, a.tail_spelled.pieces.suffix_length);
     }

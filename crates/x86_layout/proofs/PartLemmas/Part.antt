@@ -23,6 +23,7 @@ use Rattle.x86_operands.specs.Pieces.{modrm_width, suffix_width, SpellsOperands,
 use Rattle.x86_decode.specs.Head.{is_run, escape_bytes, is_opcode}
 use Rattle.x86_operands.specs.declared.asks.Ask.{Ask}
 use Rattle.x86_operands.specs.declared.reader.Reading.{Reading}
+use Rattle.x86_operands.specs.Templates.{has_address}
 use Rattle.x86_layout.specs.Parts.Heads.{map_of, one_if, has_sib}
 use Rattle.x86_layout.specs.Parts.Split.{sib_width}
 use Rattle.x86_layout.specs.Parts.Permitted.{map_named}
@@ -113,9 +114,9 @@ module _ {r : RowRecord} {p : Prefixes} {tail : List ℕ} {reading : Reading} (a
       unfolding ask_of
       modrm_count = cc (k, use_width r.modrm, a.modrm_length)
 
-      pub sib_count : one_if (has_sib ask (slice_index all 0)) ≡ sib_width m
+      pub sib_count : has_address (r.plan m).order.rm m ≡ is_memory m → one_if (has_sib ask (slice_index all 0)) ≡ sib_width m
       unfolding ask_of
-      sib_count = cc (k, sib_present r.modrm (slice_index all 0), read_as)
+      sib_count there = cc (k, sib_present r.modrm (slice_index all 0), read_as, there)
 
       pub immediate_count : ask.immediate ≡ length a.tail_spelled.pieces.immediates
       unfolding ask_of

@@ -23,7 +23,9 @@ use Rattle.x86_layout.specs.Parts.Heads.{one_if}
 use Rattle.x86_layout.specs.Parts.Split.{sib_width}
 use Rattle.x86_layout.specs.Parts.Permitted.{refuses_suffix, passes_record, displacement_length, has_row_parts, tail_of}
 use Rattle.x86_layout.proofs.PartLemmas.Part.{immediates_long, use_width, verdict_width}
-use Rattle.x86_layout.proofs.PartLemmas.OfBytes.{HoldsPieces, option_count, first_of, displacement_long}
+use Rattle.x86_layout.proofs.PartLemmas.OfBytes.{HoldsPieces, IsThere, option_count, first_of, displacement_long}
+use Rattle.x86_operands.specs.Templates.{has_address}
+use Rattle.x86_operands.specs.declared.order.Position.{Position}
 
 -- ---- tests
 
@@ -74,24 +76,25 @@ spell_operands (s ∷ rest) p m memory bytes e =
 none_left : (sib : Option ℕ) (disp : List ℕ) → one_if (is_some sib) ≡ 0 → length disp ≡ 0 → option_bytes sib ++ disp ≡ []
 none_left sib disp e h = let none = nil_from_length disp h in grind arith
 
-spell_memory : (p : Prefixes) (m : ℕ) (sib : Option ℕ) (disp : List ℕ) → one_if (is_some sib) ≡ sib_width m →
-    length disp ≡ displacement_length m sib → (memory : Option Raw) × SpellsMemory p m (option_bytes sib ++ disp) memory
-spell_memory p m sib disp e h = by (is_memory m) refl e h
+spell_memory : (at : Position) (p : Prefixes) (m : ℕ) (sib : Option ℕ) (disp : List ℕ) → has_address at m ≡ is_memory m →
+    one_if (is_some sib) ≡ sib_width m →
+    length disp ≡ displacement_length m sib → (memory : Option Raw) × SpellsMemory at p m (option_bytes sib ++ disp) memory
+spell_memory at p m sib disp there e h = by (is_memory m) refl e h
   where
     by : (t : Bool) → is_memory m ≡ t → one_if (is_some sib) ≡ one_if (t && rm_field m == 4) →
-        length disp ≡ (if t then displacement_width m sib else 0) → (memory : Option Raw) × SpellsMemory p m (option_bytes sib ++ disp) memory
+        length disp ≡ (if t then displacement_width m sib else 0) → (memory : Option Raw) × SpellsMemory at p m (option_bytes sib ++ disp) memory
     by true is e h = (
       Some (record { rex_b = has_b p; rex_x = has_x p; address_size = p.address_size; modrm = m; sib = sib; disp = signed_by (displacement_width m sib) disp }),
-      (is, record { sib = sib; disp = disp; spelled = refl; sib_present = grind (arith, e); disp_length = h; fields = refl }),
+      (there ∙ is, record { sib = sib; disp = disp; spelled = refl; sib_present = grind (arith, e); disp_length = h; fields = refl }),
     )
-    by false is e h = (None, (is, none_left sib disp e h))
+    by false is e h = (None, (there ∙ is, none_left sib disp e h))
 
 named_by : (v : Verdict) (opcode : ℕ) (suffix : Option ℕ) → is_refusal v ≡ false → refuses_suffix v suffix ≡ false →
     one_if (is_some suffix) ≡ one_if (uses_suffix v) → (o : ℕ) × (opcode_by v opcode (option_bytes suffix) ≡ Some o)
 named_by Accepts opcode suffix a h e = (opcode, refl)
 named_by NamedBySuffix opcode (Some b) a h e = some_is (suffix_opcode b) h
 named_by NamedBySuffix opcode None a h e = absurd (omega (arith, e))
-named_by (Refuses fault moment) opcode suffix a h e = absurd cc
+named_by (Refuses fault) opcode suffix a h e = absurd cc
 
 -- The parts of fields after the opcode byte are the pieces of a row.
 abbrev pub HoldsFields : (r : RowRecord) (p : Prefixes) (tail : List ℕ) (reading : Reading) → fields.Fields → SpellsRow r p tail reading → Type 0
@@ -110,17 +113,19 @@ module _ (r : RowRecord) (p : Prefixes) (f : fields.Fields) where
   abbrev v : Verdict
   v = (r.plan m).verdict
 
-  pub spelled : passes_record (record_at r f.modrm) f ≡ true → has_row_parts (record_at r f.modrm) f ≡ true → SpellsFields r p f
+  pub spelled : (is_refusal v ≡ false → has_address (r.plan m).order.rm m ≡ is_memory m) →
+      passes_record (record_at r f.modrm) f ≡ true → has_row_parts (record_at r f.modrm) f ≡ true → SpellsFields r p f
   unfolding record_at
-  spelled h k =
+  spelled reads h k =
       let passed = three_of (is_none r.at_opcode) (is_refusal v) (uses_modrm r.modrm && is_none f.modrm) (refuses_suffix v f.suffix) h in
       let counts = (tests_five _ _ _ _ _ _ _ _ _ _).0 k in
       let modrm_n : one_if (is_some f.modrm) ≡ one_if (uses_modrm r.modrm) = counts.0 in
-      let sib_n : one_if (is_some f.sib) ≡ sib_width m = counts.1 in
-      let suffix_n : one_if (is_some f.suffix) ≡ one_if (uses_suffix v) = counts.4 in
-      let memory = spell_memory p m f.sib f.displacement.items sib_n counts.2 in
-      let operand_pairs = spell_operands (plan_encodings (r.plan m)) p m memory.0 f.immediate.items counts.3 in
       let accepted : is_refusal v ≡ false = let either = passed.1 in grind arith in
+      let there = reads accepted in
+      let sib_n : one_if (is_some f.sib) ≡ sib_width m = counts.1 ∙ ap (λ t. one_if (t && rm_field m == 4)) there in
+      let suffix_n : one_if (is_some f.suffix) ≡ one_if (uses_suffix v) = counts.4 in
+      let memory = spell_memory (r.plan m).order.rm p m f.sib f.displacement.items there sib_n counts.2 in
+      let operand_pairs = spell_operands (plan_encodings (r.plan m)) p m memory.0 f.immediate.items counts.3 in
       let named = named_by v (r.plan m).opcode f.suffix accepted passed.2 suffix_n in
       record {
         reading = reading_from (r.plan m) p named.0 (four_of operand_pairs.0);
@@ -174,14 +179,15 @@ module _ {r : RowRecord} {p : Prefixes} {tail : List ℕ} {reading : Reading} (f
   unfolding record_at
   passes = cc (a.passed, accepts, names_suffix (r.plan at).verdict (r.plan at).opcode a.tail_spelled.opcode f.suffix names)
 
-  pub row_parts : has_row_parts (record_at r f.modrm) f ≡ true
+  pub row_parts : IsThere a → has_row_parts (record_at r f.modrm) f ≡ true
   unfolding record_at
-  row_parts =
+  row_parts reads =
+      let there : has_address (r.plan at).order.rm at ≡ is_memory at = subst (λ n. has_address (r.plan n).order.rm n ≡ is_memory n) same_at reads in
       let modrm : one_if (is_some f.modrm) ≡ one_if (uses_modrm r.modrm) = cc (option_count f.modrm, h.modrm, a.modrm_length, use_width r.modrm) in
       let sib : one_if (is_some f.sib) ≡ sib_width at = cc (option_count f.sib, h.sib, same_at) in
       let displacement : length f.displacement.items ≡ displacement_length at f.sib =
-      cc (displacement_long a (option_bytes f.sib) f.displacement.items h.address h.sib, first_of f.sib, same_at) in
+      cc (displacement_long a reads (option_bytes f.sib) f.displacement.items h.address h.sib, first_of f.sib, same_at) in
       let immediate : length f.immediate.items ≡ immediates_width (r.plan at) = cc (h.immediate, immediates_long a, same_at) in
       let suffix : one_if (is_some f.suffix) ≡ one_if (uses_suffix (r.plan at).verdict) =
       cc (option_count f.suffix, h.suffix, a.tail_spelled.pieces.suffix_length, verdict_width (r.plan (modrm_of r.modrm a.modrm)).verdict, same_at) in
-      (tests_five _ _ _ _ _ _ _ _ _ _).1 (modrm, sib, displacement, immediate, suffix)
+      (tests_five _ _ _ _ _ _ _ _ _ _).1 (modrm, sib ∙ ap (λ t. one_if (t && rm_field at == 4)) (sym there), displacement, immediate, suffix)

@@ -13,6 +13,7 @@ use Rattle.x86_fields.specs.ModRM.{mod_field, is_memory}
 use Rattle.x86_fields.specs.Raw.{live_bit, displacement_width, names_no_base, sib_fits, is_byte, disp_fits, has_b, has_x}
 use Rattle.x86_fields.specs.Pieces.{option_bytes, signed_by}
 use Rattle.x86_operands.specs.Pieces.{SpellsMemory}
+use Rattle.x86_operands.specs.declared.order.Position.TheVariants.{First}
 use Rattle.x86_decode.proofs.ByteLemmas.{Bytes, bytes_after, memory_fits}
 use Rattle.x86_layout.specs.Tightening.Registers.{IsByteOption}
 use Rattle.x86_layout.specs.Tightening.Shortest.{address_length, IsOfBytes}
@@ -32,7 +33,7 @@ beginning_byte : (sib : Option ℕ) (disp : List ℕ) → Bytes (option_bytes si
 beginning_byte sib disp h = grind arith
 
 -- raw fields that bytes spell are raw fields of bytes
-pub of_bytes : (p : Prefixes) (m : ℕ) (address : List ℕ) (raw : Raw) → SpellsMemory p m address (Some raw) → Bytes address → IsOfBytes raw
+pub of_bytes : (p : Prefixes) (m : ℕ) (address : List ℕ) (raw : Raw) → SpellsMemory First p m address (Some raw) → Bytes address → IsOfBytes raw
 of_bytes p m address raw h b =
     let s = h.1 in
     let both : Bytes (option_bytes s.sib ++ s.disp) = subst Bytes s.spelled b in
@@ -41,12 +42,12 @@ of_bytes p m address raw h b =
     record {
       fit = cc (s.fields, h.0, fits, spelled_disp_fits (displacement_width m s.sib) s.disp disp);
       sib = subst (λ r. IsByteOption r.sib) (sym s.fields) (beginning_byte s.sib s.disp both);
-      disp = memory_fits p m address (Some raw) raw h refl b;
+      disp = memory_fits First p m address (Some raw) raw h refl b;
     }
 
 -- and have as many bytes
 
-pub address_long : (p : Prefixes) (m : ℕ) (address : List ℕ) (raw : Raw) → SpellsMemory p m address (Some raw) → length address ≡ address_length raw
+pub address_long : (p : Prefixes) (m : ℕ) (address : List ℕ) (raw : Raw) → SpellsMemory First p m address (Some raw) → length address ≡ address_length raw
 address_long p m address raw h =
     let s = h.1 in
     let long = length-append (option_bytes s.sib) s.disp in
@@ -87,7 +88,7 @@ displacement_long raw = lowest_long_by (mod_field raw.modrm == 1) (mod_field raw
 
 -- the bytes of raw fields spell them, under prefixes with their bits
 pub respells : (q : Prefixes) (raw : Raw) → IsOfBytes raw → has_b q ≡ raw.rex_b → has_x q ≡ raw.rex_x → q.address_size ≡ raw.address_size →
-    SpellsMemory q raw.modrm (address_bytes raw) (Some raw)
+    SpellsMemory First q raw.modrm (address_bytes raw) (Some raw)
 respells q raw h b x short =
     let memory = and_parts (is_memory raw.modrm) _ h.fit in
     let fit = and_parts (sib_fits raw.modrm raw.sib) _ memory.1 in

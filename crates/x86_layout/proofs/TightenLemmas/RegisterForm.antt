@@ -32,7 +32,7 @@ use Rattle.x86_groups.specs.Rows.{group_rows}
 use Rattle.x86_decode.specs.declared.instructions.Instruction.{Instruction}
 use Rattle.x86_decode.specs.Grammar.{IsSentence}
 use Rattle.x86_decode.specs.Instruction.{slot_at}
-use Rattle.x86_layout.proofs.TightenLemmas.Relative.{Row, Seen, Byte, uses_either_form}
+use Rattle.x86_layout.proofs.TightenLemmas.Relative.{Row, Seen, Byte, spells, uses_either_form}
 
 -- ---- the operands of such a row
 
@@ -97,8 +97,7 @@ module _ {strict : Bool} {s : List ℕ} {a : Instruction} (is : IsSentence (rows
   no_raw : (memory : Option Raw) → is.whole.row_spelled.tail_spelled.pieces.memory ≡ memory → memory ≡ None
   no_raw None e = refl
   no_raw (Some raw) e =
-      let spells = rw e at is.whole.row_spelled.tail_spelled.pieces.address_spelled in
-      let either = uses_either_form (Row is.whole).modrm is.whole.row_spelled.modrm spells.0 in absurd (cc (usage, either))
+      let either = uses_either_form (Row is.whole).modrm is.whole.row_spelled.modrm (spells is.whole e).0 in absurd (cc (usage, either))
 
   pub no_memory_slot : (k : ℕ) → is_memory_slot (slot_at a k) ≡ false
   no_memory_slot k =

@@ -15,6 +15,8 @@ use Rattle.x86_operands.specs.declared.plans.ModrmUse.TheVariants.{EitherForm}
 use Rattle.x86_operands.specs.declared.reader.Reading.{Reading}
 use Rattle.x86_operands.specs.Plans.{RowRecord}
 use Rattle.x86_operands.specs.Pieces.{SpellsMemory, modrm_width}
+use Rattle.x86_operands.specs.declared.order.Position.TheVariants.{First}
+use Rattle.x86_layout.proofs.PartLemmas.OfBytes.{as_first, there_in}
 use Rattle.x86_operands.specs.Asks.{modrm_of}
 use Rattle.x86_decode.specs.Head.{escape_bytes, seen_by}
 use Rattle.x86_decode.specs.declared.instructions.Instruction.{Instruction}
@@ -67,8 +69,9 @@ module _ {strict : Bool} {s : List ℕ} {a : Reading} (v : Encoding strict s a) 
   Long raw = length v.run + (length (escape_bytes v.map) + (2 + (address_length raw + length (Last))))
 
   module _ {raw : Raw} (read : Reads raw) where
-    pub spells : SpellsMemory (Seen) (Byte) (Address) (Some raw)
-    spells = rw read at v.row_spelled.tail_spelled.pieces.address_spelled
+    pub spells : SpellsMemory First (Seen) (Byte) (Address) (Some raw)
+    spells = as_first ((Row).plan (Byte)).order.rm (Seen) (Byte) (Address) (Some raw) (there_in v)
+        (rw read at v.row_spelled.tail_spelled.pieces.address_spelled)
 
     pub fields : (Row).modrm ≡ EitherForm
     fields = uses_either_form (Row).modrm v.row_spelled.modrm (spells).0
@@ -113,7 +116,7 @@ module _ {strict : Bool} {s : List ℕ} {a : Reading} (v : Encoding strict s a) 
   Rerow q = Rerowed (Seen v) q (Byte v) (Other).modrm raw (Other) (record_of strict v.row q)
       (address_bytes (Other)) v.row_spelled.tail_spelled.pieces.immediates v.row_spelled.tail_spelled.pieces.suffix a
 
-  respelled_raw : SpellsMemory (Bits) (Other).modrm (address_bytes (Other)) (Some (Other))
+  respelled_raw : SpellsMemory First (Bits) (Other).modrm (address_bytes (Other)) (Some (Other))
   respelled_raw =
       let is = (spells v read).1.fields in
       let none = no_bits raw (Seen v) (ap (λ r. r.rex_b) is) (ap (λ r. r.rex_x) is) in

@@ -1,5 +1,5 @@
 -- The pieces of a row with other raw fields.
-use Rattle.std.proofs.Common.{◌≡◌, ℕ, true, Some, None, List, [], ◌∷◌, ◌++◌, refl, sym, ap, ◌∙◌, arith}
+use Rattle.std.proofs.Common.{◌≡◌, ℕ, Bool, true, ◌&&◌, Some, None, List, [], ◌∷◌, ◌++◌, refl, sym, ap, ◌∙◌, arith}
 use Rattle.x86_fields.specs.declared.prefixes.Prefixes.{Prefixes}
 use Rattle.x86_fields.specs.declared.raw.Raw.{Raw}
 use Rattle.x86_fields.specs.Pieces.{SpellsRaw}
@@ -14,6 +14,7 @@ use Rattle.x86_fields.specs.ModRM.{is_memory}
 use Rattle.x86_operands.specs.Plans.{Plan, RowRecord, plan_encodings}
 use Rattle.x86_operands.specs.PlanSteps.{pair_at, four_of, changed, reading_from}
 use Rattle.x86_operands.specs.Pieces.{operand_from, SpellsOperands, SpellsTail, SpellsRow, modrm_width}
+use Rattle.x86_operands.specs.Templates.{somewhere}
 use Rattle.x86_decode.specs.Grammar.{allows_lock}
 
 -- ---- the operands
@@ -57,6 +58,9 @@ module _ (p q : Prefixes) (m n : ℕ) (raw other : Raw) where
   lock_of_change : (change : PrefixChange) → p.lock ≡ q.lock → (changed change q).lock ≡ (changed change p).lock
   lock_of_change change e = grind arith
 
+  still_there : (a b c : Bool) → (a && b) ≡ true → c ≡ true → (a && c) ≡ true
+  still_there a b c h e = grind arith
+
   -- what the other row has there, with ModRM byte n and these raw fields, and the reading
   pub record Rerowed (r : RowRecord) (address immediates suffix : List ℕ) (reading : Reading) : Type 0 where
     pub again : Reading
@@ -72,6 +76,7 @@ module _ (p q : Prefixes) (m n : ℕ) (raw other : Raw) where
       r.modrm ≡ EitherForm → r.plan n ≡ plan → Rerowed r address h.pieces.immediates h.pieces.suffix reading
   rerowed r plan tail address reading h same read memory spells passed usage planned =
       let s = h.pieces in
+      let there = still_there (somewhere plan.order.rm) (is_memory m) (is_memory n) (rw read at s.address_spelled).0 memory in
       let encodings = rw read at s.immediates_spelled in
       let new = regiven (plan_encodings plan) s.immediates s.operand_pairs encodings in
       let again : Reading = reading_from plan q h.opcode (four_of new.pairs) in
@@ -92,7 +97,7 @@ module _ (p q : Prefixes) (m n : ℕ) (raw other : Raw) where
               suffix = s.suffix;
               operand_pairs = new.pairs;
               spelled = refl;
-              address_spelled = rw usage (memory, spells);
+              address_spelled = rw (usage, planned) (there, spells);
               immediates_spelled = rw (usage, planned) new.spelled;
               suffix_length = rw (usage, planned) s.suffix_length;
             };

@@ -26,7 +26,9 @@ use Rattle.x86_layout.specs.Tightening.Registers.{is_ip_relative}
 use Rattle.x86_layout.specs.Tightening.Shortest.{shortest, IsOfBytes, address_length}
 use Rattle.x86_layout.specs.Tightening.Tighten.{has_memory_form, HasMemoryOperand, HasOperandForm, raw_of, respelled, respelled_length}
 use Rattle.x86_layout.proofs.PartLemmas.Part.{halves, read_as}
-use Rattle.x86_layout.proofs.PartLemmas.OfBytes.{option_count, first_of, IsFirstSentence, has_head, parts_are}
+use Rattle.x86_layout.proofs.PartLemmas.OfBytes.{option_count, first_of, IsFirstSentence, has_head, parts_are, as_first, there_in}
+use Rattle.x86_operands.specs.Templates.{has_address}
+use Rattle.x86_operands.specs.declared.order.Position.TheVariants.{First}
 use Rattle.x86_operands.specs.declared.plans.ModrmUse.{ModrmUse}
 use Rattle.x86_operands.specs.declared.plans.ModrmUse.TheVariants.{Absent, EitherForm, Registers}
 use Rattle.x86_operands.specs.Asks.{modrm_of}
@@ -44,12 +46,15 @@ use Rattle.x86_layout.specs.Tightening.Least.{least_by, least_length, shortest_l
 -- ---- raw fields
 
 module _ {strict : Bool} {s : List ℕ} {a : Reading} (v : Encoding strict s a) where
-  some_by : (p : Prefixes) (m : ℕ) (address : List ℕ) (memory : Option Raw) → SpellsMemory p m address memory → is_memory m ≡ true →
+  some_by : (p : Prefixes) (m : ℕ) (address : List ℕ) (memory : Option Raw) → SpellsMemory First p m address memory → is_memory m ≡ true →
       (raw : Raw) × (memory ≡ Some raw)
   some_by p m address memory h e = grind arith
 
   pub some_memory : is_memory (Byte v) ≡ true → (raw : Raw) × (Reads v raw)
-  some_memory e = some_by (Seen v) (Byte v) (Address v) v.row_spelled.tail_spelled.pieces.memory v.row_spelled.tail_spelled.pieces.address_spelled e
+  some_memory e =
+      let t = v.row_spelled.tail_spelled.pieces in
+      some_by (Seen v) (Byte v) (Address v) t.memory
+      (as_first ((Row v).plan (Byte v)).order.rm (Seen v) (Byte v) (Address v) t.memory (there_in v) t.address_spelled) e
 
   -- ModRM is there, and its mod is that of memory
   form_is : is_memory (Byte v) ≡ true → has_memory_form v.row_spelled.modrm ≡ true
@@ -182,7 +187,8 @@ module _ {strict : Bool} {s : List ℕ} {a : Reading} (v : Encoding strict s a) 
   unfolding ask_of
   reads =
       let h = has_head [] v (sym (append-nil s)) in
-      cc (h.ask, h.tail, append-nil v.tail, read_as v.row_spelled v.row_spelled.tail v.row_spelled.spelled)
+      let used = read_as v.row_spelled v.row_spelled.tail (h.tail ∙ append-nil v.tail ∙ v.row_spelled.spelled) in
+      ap (λ ask. ask.memory) h.ask ∙ ap (λ n. has_address ((Row v).plan n).order.rm n) (sym used) ∙ there_in v
 
   least_is : (memory : Bool) (raw : Raw) → is_memory (Byte v) ≡ memory → raw_of (parts_of strict s) ≡ raw →
       least_length strict s ≡ least_by memory raw (length s)

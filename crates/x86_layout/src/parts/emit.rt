@@ -73,7 +73,7 @@ fn refuses_suffix(verdict: Verdict, suffix: Option<u8>) -> bool
 fn is_refusal(verdict: Verdict) -> bool
     ensures { result ≡ is_refusal verdict }
 {
-    matches!(verdict, Verdict::Refuses(_, _))
+    matches!(verdict, Verdict::Refuses(_))
 }
 
 /// Whether a record refuses neither at the opcode nor for the ModRM and the suffix that are there.

@@ -9,6 +9,7 @@ ghost use Rattle.x86_operands.specs.Asks.{modrm_of};
 ghost use Rattle.x86_fields.specs.declared.raw.Raw.{Raw};
 ghost use Rattle.x86_operands.specs.Pieces.{SpellsMemory, modrm_width};
 ghost use Rattle.x86_operands.specs.declared.plans.ModrmUse.{ModrmUse};
+ghost use Rattle.x86_operands.specs.declared.order.Position.TheVariants.{First};
 ghost use Rattle.x86_operands.specs.declared.reader.Reading.{Reading};
 ghost use Rattle.x86_decode.specs.Decoder.{is_strict};
 ghost use Rattle.x86_decode.specs.Answer.{answer_of};
@@ -39,7 +40,8 @@ fn escape_at_end(before: &[u8]) -> usize
 #[inline(always)]
 fn split_address(fields: &[u8]) -> (&[u8], &[u8], &[u8])
     ensures { (usage : ModrmUse) (p : Prefixes) (modrm address : List ℕ) (memory : Option Raw) →
-        length modrm ≡ modrm_width usage → SpellsMemory p (modrm_of usage modrm) address memory →
+        length modrm ≡ modrm_width usage →
+        SpellsMemory First p (modrm_of usage modrm) address memory →
         fields.now ≡ modrm ++ address →
         (result.0.now ≡ modrm)
         × (length result.1.now ≡ sib_width (modrm_of usage modrm))

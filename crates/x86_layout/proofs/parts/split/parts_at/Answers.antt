@@ -1,5 +1,6 @@
 use Rattle.std.proofs.Common.{ap, ◌∙◌}
 use Rattle.x86_layout.proofs.PartLemmas.Places.{escape_cut, fields_cut, head_cut, opcode_cut, suffix_cut}
+use Rattle.x86_layout.proofs.PartLemmas.OfBytes.{as_first, there_in}
 use Rattle.x86_layout.proofs.parts.split.parts_at.Goals as goal
 
 pub returns : goal.returns
@@ -12,7 +13,7 @@ returns c = λ strict reading w are.
     let fields = fields_cut w are n_is (c.split_at.ensures.back ∙ head.1) c.from.ensures in
     let suffix = suffix_cut w are (c.split_at-4.ensures.back ∙ fields.1) c.from-2.ensures in
     let tail = w.row_spelled.tail_spelled in
-    let spelled = tail.pieces.address_spelled in
+    let spelled = as_first _ _ _ _ _ (there_in w) tail.pieces.address_spelled in
     let address = c.split_address.ensures _ _ _ _ _ w.row_spelled.modrm_length spelled (c.split_at-4.ensures.front ∙ fields.0) in
     record {
       prefixes = c.split_at-3.ensures.front ∙ escape.0;
