@@ -11,10 +11,10 @@ such a trait. Calls that implement a trait are the trait's. A law is a call that
 import re
 import sys
 import textwrap
-from pathlib import Path
 
-TOP = Path(__file__).resolve().parent.parent
-CRATES = TOP / "crates"
+sys.dont_write_bytecode = True
+from sources import CRATES, TOP, write
+
 PAGE = TOP / "docs" / "CALLS.md"
 HEADING = """\
 # Calls
@@ -169,15 +169,7 @@ def main():
     if sys.argv[1:] not in ([], ["--check"]):
         print(__doc__, file=sys.stderr)
         return 2
-    written = page()
-    if not sys.argv[1:]:
-        PAGE.write_text(written)
-        return 0
-    if not PAGE.is_file() or PAGE.read_text() != written:
-        print("calls.py: docs/CALLS.md isn't what the sources say: run python3 tools/calls.py", file=sys.stderr)
-        return 1
-    print("calls.py: passed")
-    return 0
+    return write({PAGE: page()}, is_check=bool(sys.argv[1:]))
 
 
 sys.exit(main())

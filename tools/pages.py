@@ -19,7 +19,7 @@ Each crate of crates.txt has a README.md, of ten to thirty lines.
 
 Quoted code of the pages of `QUOTING`: each indented line that isn't a command, nor of a drawing, is a line of some file of crates/, letter
 by letter. The links of the pages of `LINKING` are to files and headings that are there (tools/theorem.py writes their code). Each file that
-README.md or a page of docs/ names by its crate, by tools/ or by docs/ is there, but for those of docs/CHANGES.md.
+README.md, CONTRIBUTING.md or a page of docs/ names, by the end of its path, is there, but for those of docs/CHANGES.md.
 
 Figures of a page that are older than the code that they measure are named.
 
@@ -28,6 +28,7 @@ Counts of rows, names, forms, C functions and worked encodings on README.md and 
 Reasons of tools/compare: those of tools/judge/reasons.c are the rows of their section of docs/DIFFERENCES.md. The modules of lemmas in docs/DECISIONS.md are those that proofs of x86_decode import.
 """
 
+import functools
 import os
 import re
 import shutil
@@ -274,10 +275,18 @@ def links(page):
             yield f"a link to nothing: {link} {heading}"
 
 
+@functools.cache
+def known():
+    """The files of the repository, and what is beside them, a line each."""
+    return "".join(f"{path}\n" for path in TOP.rglob("*.*"))
+
+
 def paths(page):
-    """The files that a page names by their crate, by tools/ or by docs/, and that aren't there."""
-    named = re.findall(r"\b((?:x86\w*|uses)/(?:src|specs|proofs|must-fail)/[\w./-]*\w|(?:tools|docs)/[\w./-]*\w)", (TOP / page).read_text())
-    return [f"no file is {path}" for path in dict.fromkeys(named) if not (TOP / path).exists() and not (TOP / "crates" / path).exists()]
+    """The files that a page names, by the end of their paths, by tools/ or by docs/, and that aren't there."""
+    text = (TOP / page).read_text()
+    files = re.findall(r"(?<![\w/])([\w/-]*\w\.(?:rt|antt|py|c|sh|txt))\b", text.replace("bin/rtlib.py", "").replace("../", ""))
+    lost = [name for name in files if f"/{name}\n" not in known()] + [name for name in re.findall(r"\b(?:tools|docs)/[\w./-]*\w", text) if not (TOP / name).exists()]
+    return [f"no file is {name}" for name in dict.fromkeys(lost)]
 
 
 def reasons(page):
@@ -327,7 +336,8 @@ def read(readmes):
     """Reads the pages, and answers how much in them isn't so."""
     checks = [(guide, "docs/GUIDE.md", CODE, True), (guide, "README.md", CODE), (reasons, "docs/DIFFERENCES.md"), (lemmas, "docs/DECISIONS.md")]
     checks += [(quotes, page) for page in QUOTING] + [(crate, page) for page in readmes] + [(links, page) for page in LINKING]
-    checks += [(check, page) for page in ["README.md", *NAMING] for check in (paths, counts)] + [(counts, page) for page in readmes if (TOP / page).exists()]
+    checks += [(check, page) for page in ["README.md", *NAMING] for check in (paths, counts)] + [(paths, "CONTRIBUTING.md")]
+    checks += [(counts, page) for page in readmes if (TOP / page).exists()]
     found = [f"pages: {page}: {what}" for check, page, *words in checks for what in check(page, *words)]
     print("".join(f"{line}\n" for line in found), end="", file=sys.stderr)
     return len(found)

@@ -3,9 +3,9 @@
 
 VERSION=1.0
 
-# The crate of the program, and the folder of the sources that say which words are its commands.
+# The crate of the program, and the table of its commands, a line each: its words, two blanks or more, and what it does.
 PROGRAM_CRATE=x86
-command_sources=$top/crates/x86_cli/src/commands
+commands=$top/tools/commands.txt
 
 # The bytes of text from which on `rt try` reads no further.
 TRY_MAX=67108864
@@ -148,9 +148,9 @@ is_built() {
     [ -z "$why" ]
 }
 
-# usage_line FILE: the line that a program prints where its words request nothing. The file has it.
+# usage_line: what the program prints where its words request nothing.
 usage_line() {
-    sed -n '/^pub const USAGE: &str =/{;/$/!N;s/.*"\(.*\)";$/\1/p;}' "$1"
+    awk -F '  +' '{ line = line (NR == 1 ? "usage: " : " | ") $1 } END { print line }' "$commands"
 }
 
 say() {

@@ -8,23 +8,19 @@ import re
 import subprocess
 from pathlib import Path
 
+from sources import dumped
+
 FIRST, COUNT, LEAST = 1000, 3000, 40  # lines of objdump's listing; lines that a recipe must have
 BASE = 0xFFFFFFFF81001234
 LIBRARY = "/lib/x86_64-linux-gnu/libc.so.6"
 SYMBOL = "getaddrinfo"
 NAMES = {"mov": "MOV", "lea": "LEA", "call": "CALL", "push": "PUSH", "pop": "POP", "cmp": "CMP", "test": "TEST", "add": "ADD", "ret": "RETURN", "je": "JZ"}
-DUMP = "objdump -D -w -z -b binary -m i386:x86-64 -M intel"
+DUMP = "-D -w -z -b binary -m i386:x86-64 -M intel".split()
 BRANCH = re.compile(r"(?:j\w+|call|loop\w*) +0x(\w+)$")
 
 
 def printed(command, folder):
     return subprocess.run(command, shell=True, cwd=folder, stdout=subprocess.PIPE, stderr=subprocess.DEVNULL, text=True, check=True).stdout
-
-
-def dumped(command, folder):
-    """The lines of objdump, each as its address, its bytes and its text."""
-    lines = [line.split("\t") for line in printed(command, folder).splitlines() if line.count("\t") == 2]
-    return [(int(address.strip(" :"), 16), bytes.fromhex(code), text.strip()) for address, code, text in lines]
 
 
 def least_lengths(lines, folder):
@@ -45,11 +41,11 @@ class Stranger:
     def __init__(self, folder):
         self.folder = Path(folder)
         printed("objcopy -O binary -j .text /bin/bash whole", folder)
-        lines = dumped(f"{DUMP} whole", folder)[FIRST : FIRST + COUNT]
+        lines = [*dumped(*DUMP, "whole", folder=folder)][FIRST : FIRST + COUNT]
         code = (self.folder / "whole").read_bytes()[lines[0][0] : lines[-1][0] + len(lines[-1][1])]
         (self.folder / "raw").write_bytes(code)
         (self.folder / "examples" / "stranger.hex").write_text(code.hex())
-        self.lines = dumped(f"{DUMP} --adjust-vma={BASE:#x} raw", folder)
+        self.lines = [*dumped(*DUMP, f"--adjust-vma={BASE:#x}", "raw", folder=folder)]
 
     def read(self, name):
         return (self.folder / name).read_text().splitlines()
@@ -69,7 +65,7 @@ class Stranger:
     def function(self, said):
         there = printed(f"nm -DS {LIBRARY} | awk '$4 ~ /^{SYMBOL}@@/ {{ print $1, $2 }}'", self.folder).split()
         start, size = (int(it, 16) for it in there)
-        listed = dumped(f"objdump -d -w -M intel --start-address={start} --stop-address={start + size} {LIBRARY}", self.folder)
+        listed = [*dumped("-d", "-w", "-M", "intel", f"--start-address={start}", f"--stop-address={start + size}", LIBRARY)]
         return len(listed), said == [text for _, _, text in listed]
 
     def targets(self, said):

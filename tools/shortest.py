@@ -9,15 +9,14 @@ The spellings of one address that have the fewest bytes are the shortest.
     tools/shortest.py --check   says whether it is what would be written
 """
 import itertools
-import os
 import random
 import re
-import subprocess
 import sys
 import tempfile
 
-TOP = os.path.dirname(os.path.dirname(os.path.abspath(__file__)))
-TABLE = os.path.join(TOP, "crates/uses/src/tests/shortest_table.rt")
+from sources import TOP, dumped, write
+
+TABLE = TOP / "crates/uses/src/tests/shortest_table.rt"
 COUNT = 300
 # What is before ModRM, after it and what is after the address: operations with one operand of memory.
 OPERATIONS = [
@@ -27,9 +26,8 @@ OPERATIONS = [
 DISPLACEMENTS = [0, 1, -1, 0x10, 0x7F, -0x80, 0x80, -0x81, 0x1234, -0x8000_0000, 0x7FFF_FFFF]
 
 
-def address_text(line):
+def address_text(text):
     """What objdump prints of the address."""
-    text = line.split("\t")[-1]
     found = re.search(r"\[([^]]*)\]|ds:(0x[0-9a-f]+)", text)
     return found.group(1) or found.group(2)
 
@@ -52,10 +50,8 @@ def disassembled(encodings):
         for encoding in encodings:
             image.write(encoding.ljust(16, b"\x90"))
         image.flush()
-        words = ["objdump", "-D", "-b", "binary", "-m", "i386:x86-64", "-M", "intel", "--no-show-raw-insn", "-z", image.name]
-        listing = subprocess.run(words, capture_output=True, text=True, check=True).stdout
-    lines = dict(re.findall(r"^ *([0-9a-f]+):(\t.*)$", listing, re.M))
-    return [lines[f"{16 * at:x}"] for at in range(len(encodings))]
+        lines = {place: text for place, _, text in dumped(*"-D -w -b binary -m i386:x86-64 -M intel -z".split(), image.name)}
+    return [lines[16 * at] for at in range(len(encodings))]
 
 
 def tails():
@@ -131,14 +127,9 @@ def table():
 
 
 def main():
-    if sys.argv[1:] == ["--check"]:
-        with open(TABLE, encoding="utf-8") as file:
-            sys.exit(0 if file.read() == table() else f"{TABLE} isn't what tools/shortest.py writes")
-    if sys.argv[1:]:
+    if sys.argv[1:] not in ([], ["--check"]):
         sys.exit(__doc__)
-    with open(TABLE, "w", encoding="utf-8") as file:
-        file.write(table())
+    sys.exit(write({TABLE: table()}, is_check=bool(sys.argv[1:])))
 
 
-if __name__ == "__main__":
-    main()
+main()

@@ -6,6 +6,7 @@ import os
 import re
 import shutil
 import subprocess
+import sys
 from pathlib import Path
 
 TOP = Path(__file__).resolve().parent.parent
@@ -48,10 +49,53 @@ def git(*words):
     return subprocess.run(["git", *words], cwd=TOP, capture_output=True, text=True).stdout.strip() if shutil.which("git") else ""
 
 
+@functools.cache
+def errors():
+    """The text of each error of a decode, by its name."""
+    return dict(re.findall(r'^description_of (\w+) = codes "(.*)"$', (CRATES / "x86_fields" / "specs" / "Errors.antt").read_text(), re.M))
+
+
+def error_macros():
+    """The options by which a C compiler knows the errors by their names."""
+    return [f'-D{name}="{text}"' for name, text in errors().items()]
+
+
 def worked_lines():
     """The worked lines of the tests: an encoding in hex digits, and what is listed of it."""
     line = re.compile(r'^(?:.*")?((?:[0-9a-f]{2} ?)+) => (\d+ .*?)(?:";)?$', re.M)
     return [found for path in sorted((CRATES / "uses" / "src" / "tests").glob("*.rt")) for found in line.findall(path.read_text())]
+
+
+LEGACY, REX = bytes.fromhex("66 67 f0 f2 f3 26 2e 36 3e 64 65"), bytes(range(0x40, 0x50))
+ESCAPES = {b"\x0f\x38": "Of38", b"\x0f\x3a": "Of3a", b"\x0f": "Of", b"": "One"}
+
+
+def parts_of(code):
+    """The run of prefixes that some code begins with, its opcode map, and what is after the escape."""
+    rest = code.lstrip(LEGACY + REX)
+    escape = next(it for it in ESCAPES if rest.startswith(it))
+    return code[: len(code) - len(rest)], ESCAPES[escape], rest[len(escape) :]
+
+
+def dumped(*words, folder=None):
+    """The lines of objdump, each as its address, its bytes and its text. Ends where objdump fails."""
+    with subprocess.Popen(["objdump", *words], cwd=folder, stdout=subprocess.PIPE, text=True) as ran:
+        for line in ran.stdout:
+            if line.count("\t") == 2:
+                address, code, text = line.split("\t")
+                yield int(address.strip(" :"), 16), bytes.fromhex(code), text.strip()
+    if ran.returncode != 0:
+        sys.exit(f"objdump ended with status {ran.returncode}: {' '.join(map(str, words))}")
+
+
+def write(texts, is_check):
+    """Writes texts into their files, or says which files have other texts. Returns the status."""
+    other = [path for path, text in texts.items() if not path.is_file() or path.read_text() != text]
+    for path in other:
+        print(f"{path.relative_to(TOP)} isn't what {Path(sys.argv[0]).name} writes" if is_check else f"wrote {path.relative_to(TOP)}")
+        if not is_check:
+            path.write_text(texts[path])
+    return 1 if is_check and other else 0
 
 
 def anchor(heading):

@@ -1,5 +1,5 @@
 #!/usr/bin/env python3
-"""Writes the tables that only repeat what seven lists say, so that a name, a form or a row is edited in one place.
+"""Writes the tables that only repeat what eight lists say, so that a name, a form, a row or a command is edited in one place.
 
     python3 tools/tables.py            writes them
     python3 tools/tables.py --check    changes nothing; says which are not what it would write, and then ends with status 1
@@ -13,6 +13,7 @@ The lists, which people edit:
     crates/x86_operands/specs/Rows.antt        the rows of the plain forms, a line for each row
     crates/x86_groups/specs/Rows.antt          the rows of the groups, a line for each row
     crates/x86_objdump/specs/Text/Entries.antt    how `show` writes an operation, a line for each that isn't written as its name
+    tools/commands.txt                         the commands, a line each: its words, and after two blanks what it does
 
 tools/form_rows.py has the tables of rows, and tools/form_cells.py which of them form, mod and reg alone choose. The script writes the lines of data alone:
 imports, heads of tables, functions and comments of the files are edited by hand.
@@ -25,12 +26,11 @@ A wrong entry is refused, whether the script or a hand wrote it.
 import re
 import sys
 import textwrap
-from pathlib import Path
 
 import form_cells
 import form_rows
+from sources import TOP, write
 
-TOP = Path(__file__).resolve().parent.parent
 OPCODES = TOP / "crates" / "x86_opcodes"
 FORMS = TOP / "crates" / "x86_forms"
 REGS = TOP / "crates" / "x86_regs"
@@ -38,6 +38,7 @@ OPERANDS = TOP / "crates" / "x86_operands"
 GROUPS = TOP / "crates" / "x86_groups"
 TEXT = TOP / "crates" / "x86_text"
 SHOW = TOP / "crates" / "x86_objdump"
+CLI = TOP / "crates" / "x86_cli"
 
 MAPS = ["One", "Of", "Of38", "Of3a"]
 COLUMNS = ["Plain", "P66", "F3", "F2"]
@@ -226,6 +227,12 @@ def entries_rt(text):
     return filled(text, {"ENTRIES": [f'    entry!(b"{spelled:<16}", {len(spelled)}, b"{letters}"),' for spelled, letters in entries()]})
 
 
+def with_usage(text):
+    """A text with the usage line of the program."""
+    words = [line.split("  ")[0] for line in (TOP / "tools" / "commands.txt").read_text().splitlines()]
+    return re.sub(r'(?<="usage: ).*(?=")', " | ".join(words), text)
+
+
 def rows_rt(text, function, more, counts=None):
     """A table of the rows of plain forms, or of groups, and more tables."""
     constants, tables = form_rows.tables(function, dict(forms()), numbers())
@@ -254,6 +261,8 @@ WRITTEN = {
     TEXT / "src" / "registers.rt": lambda text: filled(text, {of.upper(): name_lines(8, texts) for of, texts in registers()}),
     TEXT / "src" / "sizes.rt": sizes_rt,
     SHOW / "src" / "text" / "tables.rt": entries_rt,
+    CLI / "src" / "commands" / "request.rt": with_usage,
+    CLI / "specs" / "Commands" / "Process.antt": with_usage,
 }
 
 
@@ -264,18 +273,7 @@ def main():
     found = [*strangers()]
     if found:
         sys.exit("\n".join(f"tables.py: {line}" for line in found))
-    stale = False
-    for path, write in WRITTEN.items():
-        text = write(path.read_text())
-        if path.read_text() == text:
-            continue
-        if check:
-            stale = True
-            print(f"{path.relative_to(TOP)} is not what tools/tables.py writes")
-        else:
-            path.write_text(text)
-            print(f"wrote {path.relative_to(TOP)}")
-    return 1 if stale else 0
+    return write({path: text_of(path.read_text()) for path, text_of in WRITTEN.items()}, check)
 
 
 if __name__ == "__main__":

@@ -12,3 +12,8 @@ has() {
     skip "${package:+the package }${package:-$1} is missing: $2"
     false
 }
+
+# error NAME: what a listing says of an error of a decode.
+error() {
+    sed -n "s/^description_of $1 = codes \"\(.*\)\"\$/error: \1/p" "$top/crates/x86_fields/specs/Errors.antt"
+}

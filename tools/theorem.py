@@ -20,7 +20,7 @@ import re
 import sys
 
 sys.dont_write_bytecode = True
-from sources import CRATES, TOP, Missing, Module, anchor, clause_uses, indent, module, section, uses
+from sources import CRATES, TOP, Missing, Module, anchor, clause_uses, indent, module, section, uses, write
 
 THEOREM, DEFINITIONS = PAGES = "docs/THEOREM.md", "docs/DEFINITIONS.md"
 LISTED = re.compile(r"- \[(.*?)\]\(\.\./crates/.*?\): (.*)")
@@ -382,11 +382,7 @@ def main():
     except Missing as missing:
         fail(missing)
     pages.check(texts)
-    for page, text in texts.items():
-        if not sys.argv[1:]:
-            (TOP / page).write_text(text)
-        elif (TOP / page).read_text() != text:
-            fail(f"{page} isn't what tools/theorem.py writes")
+    sys.exit(write({TOP / page: text for page, text in texts.items()}, is_check=bool(sys.argv[1:])))
 
 
 main()

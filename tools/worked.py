@@ -14,42 +14,26 @@ import sys
 
 import form_rows
 import tables
-from sources import worked_lines
+from sources import REX, parts_of, worked_lines
 
 ACCEPTED = re.compile(r"\d+ \d+ ")  # the place and the length; of a refusal there is one number
-ERRORS = {"BadOpcode": "invalid opcode", "BadOperand": "invalid operand", "Incomplete": "the decoder is incomplete"}
-MARKS = {0xF2: "F2", 0xF3: "F3", 0x66: "66", 0x67: "67"}
-PREFIXES = {*MARKS, 0xF0, 0x26, 0x2E, 0x36, 0x3E, 0x64, 0x65}
-REX = range(0x40, 0x50)
-ESCAPES = {(0x0F,): "Of", (0x0F, 0x38): "Of38", (0x0F, 0x3A): "Of3a"}
+ERRORS = {"BadOpcode": "InvalidOpcode", "BadOperand": "InvalidOperand", "Incomplete": "IncompleteDecoder"}
 COLUMNS = {"F2": "F2", "F3": "F3", "66": "P66"}
 
 
-def prefixes(encoding):
-    """The marks of the prefixes, whether B of a live REX is there, and what follows. Of F2 and F3 the last counts."""
-    marks, rex, at = set(), 0, 0
-    while at < len(encoding) and (encoding[at] in PREFIXES or encoding[at] in REX):
-        rex = encoding[at] if encoding[at] in REX else 0
-        if encoding[at] in (0xF2, 0xF3):
-            marks -= {"F2", "F3"}
-        marks.update({MARKS[encoding[at]]} if encoding[at] in MARKS else [])
-        at += 1
-    marks.update(mark for mark, bit in (("W", 8), ("R", 4)) if rex & bit)
-    return marks, bool(rex & 1), encoding[at:]
-
-
-def opcode_map(rest):
-    """The opcode map, and what follows its escape."""
-    escapes = [escape for escape in ESCAPES if rest[: len(escape)] == bytes(escape)]
-    longest = max(escapes, key=len, default=())
-    return ESCAPES.get(longest, "One"), rest[len(longest) :]
+def marks_of(run):
+    """The marks of a run of prefixes, and whether B of a live REX is there. Of F2 and F3 the last counts."""
+    rex = run[-1] if run and run[-1] in REX else 0
+    repeats = [byte for byte in run if byte in (0xF2, 0xF3)]
+    marks = {f"{byte:X}" for byte in [*repeats[-1:], *(byte for byte in run if byte in (0x66, 0x67))]}
+    return marks | {mark for mark, bit in (("W", 8), ("R", 4)) if rex & bit}, bool(rex & 1)
 
 
 def found(encoding, maps):
     """The row of an opcode map that an encoding has, the marks that the rows of its form go by, and the byte after the
     opcode byte, if there is one."""
-    marks, has_b, rest = prefixes(encoding)
-    of, rest = opcode_map(rest)
+    run, of, rest = parts_of(encoding)
+    marks, has_b = marks_of(run)
     column = next((COLUMNS[mark] for mark in COLUMNS if mark in marks), "Plain")
     for row in maps[of] if rest else []:
         columns, byte, opcode, _, number = row

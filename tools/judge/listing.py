@@ -11,14 +11,15 @@ import re
 import subprocess
 import sys
 
+from sources import LEGACY, REX
+
 BASES = [0, 0x401000, 0xFFFFFFFF81000000]
 OBJDUMP = "objdump -D -w -z -b binary -m i386:x86-64 -M intel".split()
 HEADER = 7  # lines
 LINE = re.compile(rb"([0-9a-f]{1,16}):\t((?:[0-9a-f]{2} ){1,15}) *\t(.+)\n")
 LONE_REX = re.compile(rb"(?:rex(?:\.\w+)?\s*)+")
 PREFIX = re.compile(rb"(?:data16|addr32|lock|repn?z|[c-gs]s|rex)\b")
-REX = re.compile(rb"(?:\w+ )*rex\b")
-LEGACY = bytes.fromhex("66 67 f0 f2 f3 26 2e 36 3e 64 65")
+NAMED_REX = re.compile(rb"(?:\w+ )*rex\b")
 LONGEST, CASE = 15, 24  # bytes
 MODRMS = [mod << 6 | reg << 3 | rm for reg in range(8) for mod, rm in [(0, 0), (0, 4), (0, 5), (1, 1), (2, 4), *((3, rm) for rm in range(8))]]
 SIBS = bytes.fromhex("24 25 65 04 8d e4 20 60 2d")
@@ -49,12 +50,12 @@ class Pair:
 
     def __init__(self, code, ours, theirs):
         (self.own, self.text), (self.bytes, self.named) = ours, theirs
-        count = next((at for at, byte in enumerate(code) if byte not in LEGACY and byte >> 4 != 4), len(code))
-        self.run, self.rest = code[:count], code[count:]
+        self.rest = code.lstrip(LEGACY + REX)
+        self.run = code[: len(code) - len(self.rest)]
         self.is_bad = b"(bad)" in self.named or self.named.startswith(b".byte")
         self.has_66, self.is_cut = 0x66 in self.run, len(code) < LONGEST and PREFIX.match(self.named)
         self.is_refused = self.is_cut or self.is_bad or 0xF0 in self.run or VECTOR.match(self.rest) or OUR_ROWS.match(self.rest)
-        self.is_split = any(byte >> 4 == 4 for byte in self.run[:-1]) and REX.match(self.named)
+        self.is_split = any(byte >> 4 == 4 for byte in self.run[:-1]) and NAMED_REX.match(self.named)
         self.is_lost = self.text == b"(bad)" or not IN_ORDER.fullmatch(self.run)
         self.is_spaced = self.own == self.bytes and self.text.split() == self.named.split()
 
@@ -71,7 +72,7 @@ REASONS = {
     "refused": lambda it: it.text == b"(bad)" and len(it.own) == 1 and it.is_refused,
     "apart": lambda it: it.is_split and (it.is_lost or it.is_spaced),
     "near": lambda it: it.has_66 and NEAR.match(it.rest) and (len(it.own) == len(it.bytes) + 2 or b"xbeginw" in it.named),
-    "wait": lambda it: it.rest[:1] == b"\x9b" and it.text.endswith(b"fwait") and (it.bytes.startswith(it.own) or REX.match(it.named)),
+    "wait": lambda it: it.rest[:1] == b"\x9b" and it.text.endswith(b"fwait") and (it.bytes.startswith(it.own) or NAMED_REX.match(it.named)),
     "rows": lambda it: it.is_bad and THEIR_ROWS.match(it.rest),
     "bounds": lambda it: it.rest[:2] in (b"\x0f\x1a", b"\x0f\x1b") and b"nop" in it.text and (it.is_bad or b"bnd" in it.named),
     "hints": Pair.is_hint,

@@ -3,6 +3,10 @@
 import random
 import re
 
+from sources import errors
+
+ExhaustedInput, InvalidOpcode, _, InvalidPrefixes, TooLong, IncompleteDecoder = errors().values()
+
 # The kind, and the pattern and the text that takes its place, in one of the lines with that pattern.
 EDITS = [
     ("place higher by one", r"^(\d+) (?=\d+ MOV)", lambda m: f"{int(m[1]) + 1} "),
@@ -23,15 +27,15 @@ EDITS = [
     ("size that the processor decides", r"m\?$", "m64"),
     ("an operand missing", r"(IMUL [^,]*, [^,]*), \S+", r"\1"),
     ("operands exchanged", r"(MOV) (\S+), (r\S+)", r"\1 \3, \2"),
-    ("instruction as refusal", r"^(\d+) \d+ NOP.*", r"\1 error: invalid opcode"),
-    ("instruction as the end", r"^(\d+) \d+ MOV.*", r"\1 error: exhausted input"),
-    ("refusal as instruction", r"^(\d+) error: invalid opcode", r"\1 1 NOP m0"),
-    ("refusal of VEX as invalid opcode", "the decoder is incomplete", "invalid opcode"),
-    ("refusal invalid opcode as that of VEX", "invalid opcode", "the decoder is incomplete"),
-    ("refusal invalid prefixes as invalid opcode", "invalid prefixes", "invalid opcode"),
-    ("refusal invalid opcode as invalid prefixes", "invalid opcode", "invalid prefixes"),
-    ("refusal too long as exhausted input", "too long", "exhausted input"),
-    ("refusal exhausted input as too long", "exhausted input", "too long"),
+    ("instruction as refusal", r"^(\d+) \d+ NOP.*", rf"\1 error: {InvalidOpcode}"),
+    ("instruction as the end", r"^(\d+) \d+ MOV.*", rf"\1 error: {ExhaustedInput}"),
+    ("refusal as instruction", rf"^(\d+) error: {InvalidOpcode}", r"\1 1 NOP m0"),
+    ("refusal of VEX as InvalidOpcode", IncompleteDecoder, InvalidOpcode),
+    ("InvalidOpcode as the refusal of VEX", InvalidOpcode, IncompleteDecoder),
+    ("InvalidPrefixes as InvalidOpcode", InvalidPrefixes, InvalidOpcode),
+    ("InvalidOpcode as InvalidPrefixes", InvalidOpcode, InvalidPrefixes),
+    ("TooLong as ExhaustedInput", TooLong, ExhaustedInput),
+    ("ExhaustedInput as TooLong", ExhaustedInput, TooLong),
 ]
 
 # As EDITS, of the lines of `show`.

@@ -213,17 +213,17 @@ static void allow(struct reading *reading, const char *error)
 static void refuse(const ZydisDecoder *decoder, const struct code *code, const struct code *other, ZyanStatus status, struct reading *reading)
 {
     size_t count = code->left < LONGEST ? code->left : LONGEST;
-    const char *open = count == LONGEST ? "too long" : "exhausted input";
+    const char *open = count == LONGEST ? TooLong : ExhaustedInput;
     bool is_cut = status == ZYDIS_STATUS_NO_MORE_DATA || status == ZYDIS_STATUS_INSTRUCTION_TOO_LONG;
     bool is_vex = code->map == 0 && (code->opcode == 0xc4 || code->opcode == 0xc5 || code->opcode == 0x62);
     bool is_3dnow = code->map == 1 && code->opcode == 0x0f, is_xop = code->map == 0 && code->opcode == 0x8f && (code->modrm >> 3 & 7) != 0;
     if (code->opcode < 0 || code->front > LONGEST) { allow(reading, open); return; }
-    if (is_vex) { allow(reading, code->p66 || code->lock || code->rex ? "invalid prefixes" : "the decoder is incomplete"); return; }
+    if (is_vex) { allow(reading, code->p66 || code->lock || code->rex ? InvalidPrefixes : IncompleteDecoder); return; }
     if (other && (is_cut || is_3dnow || count == code->front) && is_open(decoder, other, count)) { allow(reading, open); return; }
     if (count < code->front + MOST_AFTER_OPCODE) allow(reading, open);
-    if (status == ZYDIS_STATUS_ILLEGAL_LOCK) allow(reading, "invalid prefixes");
-    else if (is_xop) allow(reading, "the decoder is incomplete");
-    else { allow(reading, "invalid opcode"); allow(reading, "invalid operand"); }
+    if (status == ZYDIS_STATUS_ILLEGAL_LOCK) allow(reading, InvalidPrefixes);
+    else if (is_xop) allow(reading, IncompleteDecoder);
+    else { allow(reading, InvalidOpcode); allow(reading, InvalidOperand); }
 }
 
 /* The line that is expected at some bytes. */

@@ -4,6 +4,9 @@ import collections
 import re
 
 import processor
+from sources import errors
+
+ExhaustedInput, InvalidOpcode, InvalidOperand, _, TooLong, _ = errors().values()
 
 # How many cases of the first chunk of a kind are looked through, and how many lines of a fault are judged.
 CASES = {"rows": 150000, "addresses": 30000, "registers": 190000, "sizes": 36000, "segments": 50000, "spellings": 20000, "prefixes": 10000, "worked": 2000}
@@ -15,13 +18,13 @@ FAULTS = [
     ("rows", "a length too long", r"^2 (ADD \[)", r"3 \1"),
     ("rows", "a length too short", r"^6 (SUB \[)", r"5 \1"),
     ("prefixes", "a length at the limit", r"^15 ", "14 "),
-    ("rows", "a refusal accepted", r"^error: invalid opcode", "1 NOP m0"),
-    ("prefixes", "too long accepted", r"^error: too long", "15 NOP m0"),
-    ("rows", "an instruction refused", r"^3 BT \[.*", "error: invalid opcode"),
-    ("rows", "8C without R refused", r"^2 MOV \[\w+\], es .*", "error: invalid operand"),
-    ("rows", "0F 0D with memory refused", r"^\d PREFETCHW .*", "error: invalid operand"),
+    ("rows", "a refusal accepted", rf"^error: {InvalidOpcode}", "1 NOP m0"),
+    ("prefixes", "too long accepted", rf"^error: {TooLong}", "15 NOP m0"),
+    ("rows", "an instruction refused", r"^3 BT \[.*", f"error: {InvalidOpcode}"),
+    ("rows", "8C without R refused", r"^2 MOV \[\w+\], es .*", f"error: {InvalidOperand}"),
+    ("rows", "0F 0D with memory refused", r"^\d PREFETCHW .*", f"error: {InvalidOperand}"),
     ("worked", "a worked line: length", r"^3 (XOR|LEA|CMP|AND) ", r"4 \1 "),
-    ("worked", "a worked line: exhausted input", r"^error: exhausted input after (\d+)", lambda m: f"error: exhausted input after {int(m[1]) + 8}"),
+    ("worked", "a worked line: exhausted input", rf"^error: {ExhaustedInput} after (\d+)", lambda m: f"error: {ExhaustedInput} after {int(m[1]) + 8}"),
     ("worked", "a worked line: address", r"\[rbp([-+]\d+)\]", r"[rsp\1]"),
     ("rows", "a base", r"\[rbx\]", "[rbp]"),
     ("rows", "a displacement's sign", r"\[rbp\+(\d+)\]", r"[rbp-\1]"),

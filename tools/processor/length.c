@@ -33,10 +33,10 @@ static void check_refusal(const struct test *it)
     const char *error = it->line.error;
     struct limit limit = may_fetch(&it->code, false);
     struct outcome of;
-    bool is_cut = !strncmp(error, "exhausted input after ", 22);
-    if (!strcmp(error, "too long")) { check_too_long(it); return; }
+    bool is_cut = !strncmp(error, ExhaustedInput " after ", sizeof ExhaustedInput " after " - 1);
+    if (!strcmp(error, TooLong)) { check_too_long(it); return; }
     if (limit.most < 15 && !is_cut) { tally("refusal undecided: not fetched whole, %s", limit.why); return; }
-    int count = is_cut ? atoi(error + 22) : least_bytes(it->bytes, (int)it->code.front, &of);
+    int count = is_cut ? atoi(error + sizeof ExhaustedInput " after " - 1) : least_bytes(it->bytes, (int)it->code.front, &of);
     if (is_cut) of = run(it->bytes, count);
     set_example(it->bytes, count, it->text, &of);
     if (is_cut) tally("refusal %s: exhausted input, %s", wants_more(of, count) ? "agrees" : of.trap == TRAP_UD ? "undecided" : "DIFFERS", trap_name(of.trap));

@@ -12,6 +12,7 @@ import sys
 from pathlib import Path
 
 import examples
+import sources
 
 HERE = Path(__file__).resolve().parent
 TOP = HERE.parent.parent
@@ -22,8 +23,8 @@ MARK = "**Processor:**"
 
 # The rows of docs/DIFFERENCES.md that a processor contradicts, and the words of the differences.
 REASONS = {
-    "R and segment registers": r"refusal DIFFERS: invalid operand, (ran|#PF) \| .*8c /[0-5] .*with R",
-    "register form of 0F 0D": r"refusal DIFFERS: invalid operand, ran \| .*0f 0d /. reg",
+    "R and segment registers": rf"refusal DIFFERS: {sources.errors()['InvalidOperand']}, (ran|#PF) \| .*8c /[0-5] .*with R",
+    "register form of 0F 0D": rf"refusal DIFFERS: {sources.errors()['InvalidOperand']}, ran \| .*0f 0d /. reg",
     "XABORT and XBEGIN": r"outcome DIFFERS: #UD of (XABORT|XBEGIN) \| .*c[67] /[1-6] reg",
     "a hint that has no name here": r"meaning DIFFERS: registers of XCHG \| f3 90",
     "66 and F3 before 0F C7": r"outcome DIFFERS: #UD of (RDRAND|RDSEED|VMCLEAR) \| f3 0f c7 .*with 66",
@@ -63,7 +64,7 @@ def worked():
     for path in sorted((TOP / "crates" / "uses" / "src" / "tests").glob("*_table.rt")):
         for code, words in re.findall(r'^(?:.*")?((?:[0-9a-f]{2} ?)+) => (\d+ [^|\n]*?)(?:";)?$', path.read_text(), re.M):
             code, (first, rest) = bytes.fromhex(code), words.split(" ", 1)
-            rest = rest if rest[0].isdigit() else f"error: {rest}" + f" after {len(code)}" * rest.startswith("exhausted")
+            rest = rest if rest[0].isdigit() else f"error: {sources.errors()[rest]}" + f" after {len(code)}" * (rest == "ExhaustedInput")
             lines.append(f"{len(cases)} {rest}\n")
             cases += code.ljust(STRIDE, b"\x90")
     return bytes(cases), "".join(lines).encode()
@@ -75,7 +76,7 @@ class Bench:
     def __init__(self, work, programs):
         self.work, self.judge, (self.program, self.show), self.addresses = work, work / "processor", programs, None
         flags = "-O2 -Wall -fPIE -pie -fno-stack-protector -fcf-protection=none".split()
-        subprocess.run(["cc", *flags, "-o", self.judge, *sorted(HERE.glob("*.c")), HERE.parent / "judge" / "code.c"], check=True)
+        subprocess.run(["cc", *flags, *sources.error_macros(), "-o", self.judge, *sorted(HERE.glob("*.c")), HERE.parent / "judge" / "code.c"], check=True)
 
     def has_addresses(self):
         self.addresses = self.addresses or examples.built("addresses", "x86_layout", self.work)

@@ -210,7 +210,8 @@ fn columns(instruction: &Instruction) -> Line {
 #[test]
 fn print(rt: HostRuntime) {
     assert!(rt; line_at(&[0x48, 0x01, 0xd8], 4).as_slice() == b"4 3 ADD rax, rbx m8".as_slice());
-    assert!(rt; line_at(&[0x06], 7).as_slice() == b"7 error: invalid opcode".as_slice());
+    let refusal = refusal_of(7, DecodeError::InvalidOpcode);
+    assert!(rt; line_at(&[0x06], 7).as_slice() == refusal.as_slice());
 }
 
 /// Whether these are the columns of an instruction, and this the text of its operand 1.

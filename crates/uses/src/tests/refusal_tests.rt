@@ -1,11 +1,12 @@
 //! Refusals, worked by hand from the rows.
+use crate::tests::decoding::error_named;
 use crate::tests::line_tests::bytes_of;
 use crate::tests::plain_tests::agree_on;
 use crate::tests::refusal_table;
-use x86_arch::{DecodeError, Reader, U8Reader};
+use x86_arch::{Reader, U8Reader};
 use x86_decode::InstDecoder;
 
-/// The tables of refusals, `HEX => TAKEN REASON`.
+/// The tables of refusals, `HEX => TAKEN ERROR`.
 fn tables() -> [&'static str; 4] {
     [
         refusal_table::PART_1,
@@ -15,13 +16,13 @@ fn tables() -> [&'static str; 4] {
     ]
 }
 
-/// Whether bytes are refused with the error of this description, and so many of them are taken.
-fn is_refused(bytes: &[u8], taken: &str, reason: &str) -> bool {
+/// Whether bytes are refused with the error of this name, and so many of them are taken.
+fn is_refused(bytes: &[u8], taken: &str, name: &str) -> bool {
     let mut reader = U8Reader::new(bytes);
     match &InstDecoder::default().decode(&mut reader) {
         Ok(_) => false,
         Err(error) => {
-            error.description() == reason
+            error_named(name) == Some(*error)
                 && matches!(taken.parse::<u64>(), Ok(count) if count == reader.offset())
         }
     }
@@ -31,9 +32,9 @@ fn is_refused(bytes: &[u8], taken: &str, reason: &str) -> bool {
 fn is_refused_row(row: &str) -> bool {
     match row.split_once(" => ") {
         Some((digits, answer)) => match (bytes_of(digits), answer.split_once(" ")) {
-            (Some(bytes), Some((taken, reason))) => {
+            (Some(bytes), Some((taken, name))) => {
                 let bytes = bytes.as_slice();
-                is_refused(bytes, taken, reason) && agree_on(bytes)
+                is_refused(bytes, taken, name) && agree_on(bytes)
             }
             _ => false,
         },

@@ -114,8 +114,10 @@ fn a_line_of_191_bytes(rt: HostRuntime) {
 
 #[test]
 fn errors_of_tighten_by_their_texts(rt: HostRuntime) {
-    let refused = TightenError::Refused(DecodeError::InvalidOpcode);
-    assert!(&rt; is_shown(rt.alloc(), &refused, "invalid opcode"));
+    for (error, text) in REFUSALS {
+        let refused = TightenError::Refused(*error);
+        assert!(&rt; is_shown(rt.alloc(), &refused, text), "{text}");
+    }
     assert!(&rt; is_shown(rt.alloc(), &TightenError::NoMemoryForm, "no memory form"));
     assert!(&rt; is_shown(rt.alloc(), &TightenError::IpRelative, "ip-relative form"));
 }

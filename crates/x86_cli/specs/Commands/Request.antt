@@ -1,5 +1,5 @@
 -- What words request, and a run over a source and a sink.
-use Rattle.std.specs.Prelude.{◌≡◌, ℕ, ◌≤◌, Bool, false, List, [], ◌∷◌, Some, Result, ⊤, codes, decimal}
+use Rattle.std.specs.Prelude.{◌≡◌, ℕ, ◌≤◌, Bool, true, false, List, [], ◌∷◌, Option, Some, None, Result, ⊤, ◌&&◌, if◌then◌else◌, codes, decimal, bytes_eq}
 use Rattle.x86_streams.specs.declared.outside.source.Got.{Got}
 use Rattle.x86_streams.specs.declared.outside.sink.SinkFailed.{SinkFailed}
 use Rattle.x86_streams.specs.Outside.Joined.{FlushesWriter, ReadsReader, WritesWriter}
@@ -16,13 +16,23 @@ use Rattle.x86_text.specs.Parts.{fields_line}
 use Rattle.x86_cli.specs.declared.commands.command.Command.{Command}
 use Rattle.x86_cli.specs.declared.commands.request.Request.{Request}
 use Rattle.x86_cli.specs.declared.listings.status.Status.{Status}
-use Rattle.x86_cli.specs.Commands.Command.{command_of}
 use Rattle.x86_cli.specs.Commands.Make.{made_listing}
 use Rattle.x86_cli.specs.Listings.Listing.{Listing, at_end, listing_from}
 use Rattle.x86_cli.specs.Listings.Performs.{Performs, Task}
 use Rattle.x86_cli.specs.Listings.Sweep.{known_sweep_at, sweep_at}
 use Rattle.x86_cli.specs.Listings.Targets.{targets_at}
 use Rattle.x86_cli.specs.Listings.Tighten.{least_text}
+
+-- the command that the arguments are, matched whole
+abbrev pub command_of : List (List ℕ) → Option Command
+command_of (a ∷ []) =
+    if bytes_eq a (codes "list") then Some (Command.List false)
+    else (if bytes_eq a (codes "fields") then Some Command.Fields
+    else (if bytes_eq a (codes "tighten") then Some Command.Tighten
+    else (if bytes_eq a (codes "sweep") then Some Command.Sweep
+    else (if bytes_eq a (codes "targets") then Some Command.Targets else None))))
+command_of (a ∷ b ∷ []) = if bytes_eq a (codes "list") && bytes_eq b (codes "--strict") then Some (Command.List true) else None
+command_of arguments = None
 
 -- The words request this: those of a command, or `make` and a decimal from 1 to a million, without a sign or a leading
 -- zero.

@@ -2,8 +2,7 @@
 
 ghost use Rattle.x86_decode.specs.Decoder.{is_strict};
 ghost use Rattle.std.specs.Prelude.{◌≡◌, [], ◌∷◌, map, string_bytes};
-ghost use Rattle.x86_cli.specs.Commands.Command.{command_of};
-ghost use Rattle.x86_cli.specs.Commands.Request.{task_of};
+ghost use Rattle.x86_cli.specs.Commands.Request.{command_of, task_of};
 ghost use Rattle.x86_cli.specs.Listings.Performs.{Performs};
 ghost use Rattle.x86_cli.specs.declared.commands.request.Request.TheVariants.{Reads};
 

@@ -75,9 +75,8 @@ pub fn listed<E, O: Input<E> + Output<E>>(
 
 /// Does what the words request, and returns how that ended.
 ///
-/// `list`, `list --strict`, `fields`, `tighten`, `sweep` and `targets` read a hex text from the source, at most
-/// `TEXT_MAX` bytes of it (`TARGETS_MAX` for `targets`), and put its listing to the sink. `make`
-/// with a number from 1 to `MAKE_MAX` reads nothing and puts one line.
+/// A command reads a hex text from the source, at most `TEXT_MAX` bytes of it (`TARGETS_MAX` for `targets`), and puts its
+/// listing to the sink. `make` with a number from 1 to `MAKE_MAX` reads nothing and puts one line.
 ///
 /// The statuses are those of `listed`, where the source is the reader and a put is a write. At `Refused` the last line is a
 /// refusal; `sweep` and `targets` never end so. At `BadText` it has the position of a byte that can't be where it is. At

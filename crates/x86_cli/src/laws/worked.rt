@@ -142,7 +142,7 @@ pub fn too_long()
     headline_of_bytes();
 }
 
-/// `06` is refused as an invalid opcode, whatever follows it: the byte has no row.
+/// `06` is refused with `InvalidOpcode`, whatever follows it: the byte has no row.
 pub fn no_row()
     ensures has { (strict : Bool) → HasError printed_row strict (0x06 ∷ []) InvalidOpcode }
     ensures answer { (strict : Bool) (rest : List ℕ) →

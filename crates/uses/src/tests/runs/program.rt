@@ -1,5 +1,6 @@
 //! The whole program, over readers and writers that are slow, that are short, and that fail.
 
+use crate::tests::runs::run_table;
 use crate::tests::runs::support::{ShortReader, ShortWriter, arguments, shows};
 use std::alloc::{AllocError, Global};
 use std::io;
@@ -155,7 +156,7 @@ fn readers_that_fail(rt: HostRuntime) {
 /// Texts, each with its listing.
 const ENDS: &[(&str, &str)] = &[
     ("90", "0 1 NOP m0 / Done"),
-    ("90 06 90", "0 1 NOP m0 / 1 error: invalid opcode / Refused"),
+    ("90 06 90", run_table::REFUSED),
     ("90 4", "0 1 NOP m0 / text error at 4 / BadText"),
 ];
 

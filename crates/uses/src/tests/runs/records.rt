@@ -19,7 +19,7 @@ struct Run {
 const NONE: u64 = u64::MAX;
 
 /// What was written is flushed before each read and at the end, and nothing is read after a refusal or an error. The lines
-/// are `0 1 NOP m0`, `1 error: invalid opcode` and `read fault`.
+/// are `0 1 NOP m0`, that of a refusal, and `read fault`.
 const RUNS: &[Run] = &[
     Run {
         text: b"90",

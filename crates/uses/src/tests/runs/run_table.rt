@@ -2,6 +2,9 @@
 //! ends, where a call of its source fails. `-` is no call, and of several calls each fails in another run. After the last
 //! word is a blank where that word is empty.
 
+/// The listing of `90 06 90`.
+pub const REFUSED: &str = "0 1 NOP m0 / 1 error: invalid opcode / Refused";
+
 pub const RUNS: &str = " | 01 d8 | - => Usage
 List | 01 d8 | - => Usage
 list strict | 01 d8 | - => Usage
