@@ -139,6 +139,8 @@ pub fn shown_line(
         (λ line. (i : Instruction) → answer_of (is_strict decoder.now) bytes.now ≡ Ok i →
         line.items ≡ shown_line (is_strict decoder.now) address bytes.now i)
         (λ error. answer_of (is_strict decoder.now) bytes.now ≡ Err error) }
+    ensures refused { (error : DecodeError) →
+        answer_of (is_strict decoder.now) bytes.now ≡ Err error → result ≡ Err error }
 {
     let mut line = ShownLine::new();
     let instruction = decoder.decode_slice(bytes)?;
