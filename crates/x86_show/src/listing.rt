@@ -18,10 +18,10 @@ use x86_cli::{Finished, Program};
 use x86_decode::laws::lengths;
 use x86_decode::{InstDecoder, Instruction};
 use x86_layout::split_decoded;
+use x86_streams::lines::Place;
 use x86_streams::lines::cells::{put, put_bytes, put_first};
 use x86_streams::lines::hexadecimal::{put_hexadecimal, put_spaced_bytes};
-use x86_streams::lines::{Place, Room};
-use x86_streams::{Input, Output, Window};
+use x86_streams::{Held, Input, Output, Window};
 
 /// How many bytes a line has room for, its end included.
 const ROOM: usize = 528;
@@ -77,23 +77,24 @@ fn put_column(cells: &mut [u8], at: usize, known: &[u8], count: usize) -> usize
 /// Writes the address, and the first bytes of those that are known, in a column that is as wide as seven of them.
 #[inline(always)]
 #[tactic(auto, unfolding(crate::specs::Lines::beginning))]
-fn put_beginning(cells: &mut [u8], address: u64, known: &[u8], count: usize) -> usize
-    requires room { 128 ≤ length cells.old }
+fn put_beginning(cells: &mut [u8], at: usize, address: u64, known: &[u8], count: usize) -> usize
+    requires room { at + 128 ≤ length cells.old }
     requires few { count ≤ 15 }
     requires there { count ≤ length known.now }
-    ensures text { take result cells.new ≡ beginning address (take count known.now) }
-    ensures short { result ≤ 64 }
+    ensures text { take result cells.new
+        ≡ take at cells.old ++ beginning address (take count known.now) }
+    ensures short { result ≤ at + 64 }
 {
-    let at = put_hexadecimal(cells, 0, address);
+    let at = put_hexadecimal(cells, at, address);
     let at = put(cells, at, b':');
     let at = put(cells, at, b'\t');
     let at = put_column(cells, at, known, count);
     put(cells, at, b'\t')
 }
 
-/// Writes the line of an instruction over another, without its end. The instruction has the first bytes of those that are known.
-fn write_shown(
-    line: &mut Room<ROOM>,
+/// Appends the line of an instruction, without its end. The instruction has the first bytes of those that are known.
+fn push_shown(
+    held: &mut Held,
     decoder: &InstDecoder,
     address: u64,
     instruction: &Instruction,
@@ -102,36 +103,40 @@ fn write_shown(
 )
     requires few { count ≤ 15 }
     requires there { count ≤ length known.now }
+    requires room { array_vec_len held.old ≤ 65536 }
     requires answered { answer_of (is_strict decoder.now) (take count known.now)
         ≡ Ok instruction.now }
-    ensures text { line.new.items ≡ shown_text address (take count known.now) instruction.now
+    ensures text { held.new.items ≡ held.old.items
+        ++ shown_text address (take count known.now) instruction.now
         (parts_of (is_strict decoder.now) (take count known.now)) }
-    ensures short { array_vec_len line.new < shown_room }
+    ensures short { array_vec_len held.new < array_vec_len held.old + shown_room }
 {
-    let at = put_beginning(&mut line.cells, address, known, count);
+    let at = put_beginning(&mut held.cells, held.len, address, known, count);
     let next = address.wrapping_add(length_of(instruction));
     let parts = split_decoded(decoder, instruction, &known[..count]);
-    line.len = put_instruction(&mut line.cells, at, instruction, &parts, next);
+    held.len = put_instruction(&mut held.cells, at, instruction, &parts, next);
 }
 
-/// Writes the line of a VEX, EVEX or XOP encoding over another, without its end.
-fn write_vector(line: &mut Room<ROOM>, address: u64, bytes: &[u8])
-    requires { length bytes.now ≤ 15 }
-    ensures text { line.new.items ≡ vector_text address bytes.now }
-    ensures short { array_vec_len line.new < shown_room }
+/// Appends the line of a VEX, EVEX or XOP encoding, without its end.
+fn push_vector(held: &mut Held, address: u64, bytes: &[u8])
+    requires few { length bytes.now ≤ 15 }
+    requires room { array_vec_len held.old ≤ 65536 }
+    ensures text { held.new.items ≡ held.old.items ++ vector_text address bytes.now }
+    ensures short { array_vec_len held.new < array_vec_len held.old + shown_room }
 {
-    let at = put_beginning(&mut line.cells, address, bytes, bytes.len());
-    line.len = put_bytes(&mut line.cells, at, b"(vex)");
+    let at = put_beginning(&mut held.cells, held.len, address, bytes, bytes.len());
+    held.len = put_bytes(&mut held.cells, at, b"(vex)");
 }
 
-/// Writes the line of a byte that begins nothing over another, without its end.
-fn write_bad(line: &mut Room<ROOM>, address: u64, bytes: &[u8])
-    requires { length bytes.now ≤ 15 }
-    ensures text { line.new.items ≡ refused_text address bytes.now }
-    ensures short { array_vec_len line.new < shown_room }
+/// Appends the line of a byte that begins nothing, without its end.
+fn push_bad(held: &mut Held, address: u64, bytes: &[u8])
+    requires few { length bytes.now ≤ 15 }
+    requires room { array_vec_len held.old ≤ 65536 }
+    ensures text { held.new.items ≡ held.old.items ++ refused_text address bytes.now }
+    ensures short { array_vec_len held.new < array_vec_len held.old + shown_room }
 {
-    let at = put_beginning(&mut line.cells, address, bytes, bytes.len());
-    line.len = put_bytes(&mut line.cells, at, b"(bad)");
+    let at = put_beginning(&mut held.cells, held.len, address, bytes, bytes.len());
+    held.len = put_bytes(&mut held.cells, at, b"(bad)");
 }
 
 /// The listing of an image that begins at an address.
@@ -152,7 +157,7 @@ impl Course<ROOM> for ShowAt {
         window: &Window,
         place: &Place,
         inst: &mut Instruction,
-        line: &mut Room<ROOM>,
+        held: &mut Held,
     ) -> Entry {
         decoder_laws();
         lengths();
@@ -161,7 +166,7 @@ impl Course<ROOM> for ShowAt {
         match decoder.decode_slice_into(inst, bytes) {
             Ok(()) => {
                 let length = length_of(inst);
-                write_shown(line, decoder, address, inst, bytes, length as usize);
+                push_shown(held, decoder, address, inst, bytes, length as usize);
                 Entry::Line(length)
             }
             Err(error) => match shown_at(window, error) {
@@ -170,11 +175,11 @@ impl Course<ROOM> for ShowAt {
                 AtRefusal::Refused => match vector_at(bytes, window.ended.is_some()) {
                     Vector::Cut => Entry::Undecided,
                     Vector::Whole(length) => {
-                        write_vector(line, address, &bytes[..length]);
+                        push_vector(held, address, &bytes[..length]);
                         Entry::Line(length as u64)
                     }
                     Vector::Absent => {
-                        write_bad(line, address, &bytes[..1]);
+                        push_bad(held, address, &bytes[..1]);
                         Entry::Line(1)
                     }
                 },
