@@ -16,5 +16,5 @@ mod program;
 mod text;
 mod vectors;
 
-pub use lines::{SHOWN_ROOM, ShownLine, shown_line, write_shown};
+pub use lines::{SHOWN_ROOM, ShownLine, push_shown, shown_line};
 pub use program::{USAGE, base_in, finish, shown};

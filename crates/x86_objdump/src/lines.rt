@@ -73,44 +73,46 @@ fn put_column(cells: &mut [u8], at: usize, known: &[u8], count: usize) -> usize
 /// Writes the address, and the first bytes of those that are known, in a column that is as wide as seven of them.
 #[inline(always)]
 #[tactic(auto, unfolding(crate::specs::Lines::beginning))]
-fn put_beginning(cells: &mut [u8], address: u64, known: &[u8], count: usize) -> usize
-    requires room { 128 ≤ length cells.old }
+fn put_beginning(cells: &mut [u8], at: usize, address: u64, known: &[u8], count: usize) -> usize
+    requires room { at + 128 ≤ length cells.old }
     requires few { count ≤ 15 }
     requires there { count ≤ length known.now }
-    ensures text { take result cells.new ≡ beginning address (take count known.now) }
-    ensures short { result ≤ 64 }
+    ensures text { take result cells.new
+        ≡ take at cells.old ++ beginning address (take count known.now) }
+    ensures short { result ≤ at + 64 }
 {
-    let at = put_hexadecimal(cells, 0, address);
+    let at = put_hexadecimal(cells, at, address);
     let at = put(cells, at, b':');
     let at = put(cells, at, b'\t');
     let at = put_column(cells, at, known, count);
     put(cells, at, b'\t')
 }
 
-/// Writes the line of an instruction over another, without its end, as [`shown_line`] answers it. `instruction` is what
-/// the decoder answers for the bytes, which may go on after it; its first byte is at the address.
+/// Appends the line of an instruction, without its end, as [`shown_line`] answers it. `instruction` is what the decoder
+/// answers for the bytes, which may go on after it; its first byte is at the address. The line has at most 527 bytes.
 ///
 /// ```
 /// let bytes = [0x74, 0x29, 0xc3];
 /// let instruction = decoder.decode_slice(&bytes)?;
-/// write_shown(&mut line, &decoder, 0x401007, &instruction, &bytes);
+/// push_shown(&mut line, &decoder, 0x401007, &instruction, &bytes);
 /// ```
-pub fn write_shown(
-    line: &mut ShownLine,
+pub fn push_shown<const N: usize>(
+    line: &mut Room<N>,
     decoder: &InstDecoder,
     address: u64,
     instruction: &Instruction,
     bytes: &[u8],
 )
     requires decoded { answer_of (is_strict decoder.now) bytes.now ≡ Ok instruction.now }
-    ensures text { line.new.items ≡
-        shown_line (is_strict decoder.now) address bytes.now instruction.now }
-    ensures short { array_vec_len line.new < shown_room }
+    requires room { array_vec_len line.old + shown_room ≤ N }
+    ensures text { line.new.items ≡ line.old.items
+        ++ shown_line (is_strict decoder.now) address bytes.now instruction.now }
+    ensures short { array_vec_len line.new < array_vec_len line.old + shown_room }
 {
     decoder_laws();
     lengths();
     let count = length_of(instruction) as usize;
-    let at = put_beginning(&mut line.cells, address, bytes, count);
+    let at = put_beginning(&mut line.cells, line.len, address, bytes, count);
     let next = address.wrapping_add(length_of(instruction));
     line.len = put_instruction(
         &mut line.cells,
@@ -144,26 +146,28 @@ pub fn shown_line(
 {
     let mut line = ShownLine::new();
     let instruction = decoder.decode_slice(bytes)?;
-    write_shown(&mut line, decoder, address, &instruction, bytes);
+    push_shown(&mut line, decoder, address, &instruction, bytes);
     Ok(line)
 }
 
-/// Writes the line of a VEX, EVEX or XOP encoding over another, without its end.
-pub fn write_vector(line: &mut ShownLine, address: u64, bytes: &[u8])
-    requires { length bytes.now ≤ 15 }
-    ensures text { line.new.items ≡ vector_text address bytes.now }
-    ensures short { array_vec_len line.new < shown_room }
+/// Appends the line of a VEX, EVEX or XOP encoding, without its end.
+pub fn push_vector<const N: usize>(line: &mut Room<N>, address: u64, bytes: &[u8])
+    requires few { length bytes.now ≤ 15 }
+    requires room { array_vec_len line.old + shown_room ≤ N }
+    ensures text { line.new.items ≡ line.old.items ++ vector_text address bytes.now }
+    ensures short { array_vec_len line.new < array_vec_len line.old + shown_room }
 {
-    let at = put_beginning(&mut line.cells, address, bytes, bytes.len());
+    let at = put_beginning(&mut line.cells, line.len, address, bytes, bytes.len());
     line.len = put_bytes(&mut line.cells, at, b"(vex)");
 }
 
-/// Writes the line of a byte that begins nothing over another, without its end.
-pub fn write_bad(line: &mut ShownLine, address: u64, bytes: &[u8])
-    requires { length bytes.now ≤ 15 }
-    ensures text { line.new.items ≡ refused_text address bytes.now }
-    ensures short { array_vec_len line.new < shown_room }
+/// Appends the line of a byte that begins nothing, without its end.
+pub fn push_bad<const N: usize>(line: &mut Room<N>, address: u64, bytes: &[u8])
+    requires few { length bytes.now ≤ 15 }
+    requires room { array_vec_len line.old + shown_room ≤ N }
+    ensures text { line.new.items ≡ line.old.items ++ refused_text address bytes.now }
+    ensures short { array_vec_len line.new < array_vec_len line.old + shown_room }
 {
-    let at = put_beginning(&mut line.cells, address, bytes, bytes.len());
+    let at = put_beginning(&mut line.cells, line.len, address, bytes, bytes.len());
     line.len = put_bytes(&mut line.cells, at, b"(bad)");
 }

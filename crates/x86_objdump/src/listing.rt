@@ -2,7 +2,7 @@
 
 ghost use Rattle.x86_objdump.specs.Listing.{shown_at, known_at, showing};
 
-use crate::lines::{SHOWN_ROOM, ShownLine, write_bad, write_shown, write_vector};
+use crate::lines::{SHOWN_ROOM, push_bad, push_shown, push_vector};
 use crate::vectors::{Vector, vector_at};
 use x86_cli::laws::decoder_laws;
 use x86_cli::listings::listing::{Course, Entry, length_of, list};
@@ -11,7 +11,7 @@ use x86_cli::text::window::AtRefusal;
 use x86_cli::{Finished, Program};
 use x86_decode::{InstDecoder, Instruction};
 use x86_streams::lines::Place;
-use x86_streams::{Input, Output, Window};
+use x86_streams::{Held, Input, Output, Window};
 
 /// The listing of an image that begins at an address.
 #[derive(Drop)]
@@ -31,7 +31,7 @@ impl Course<SHOWN_ROOM> for ShowAt {
         window: &Window,
         place: &Place,
         inst: &mut Instruction,
-        line: &mut ShownLine,
+        held: &mut Held,
     ) -> Entry {
         decoder_laws();
         let bytes = window.bytes.as_slice();
@@ -39,7 +39,7 @@ impl Course<SHOWN_ROOM> for ShowAt {
         match decoder.decode_slice_into(inst, bytes) {
             Ok(()) => {
                 let length = length_of(inst);
-                write_shown(line, decoder, address, inst, bytes);
+                push_shown(held, decoder, address, inst, bytes);
                 Entry::Line(length)
             }
             Err(error) => match shown_at(window, error) {
@@ -48,11 +48,11 @@ impl Course<SHOWN_ROOM> for ShowAt {
                 AtRefusal::Refused => match vector_at(bytes, window.ended.is_some()) {
                     Vector::Cut => Entry::Undecided,
                     Vector::Whole(length) => {
-                        write_vector(line, address, &bytes[..length]);
+                        push_vector(held, address, &bytes[..length]);
                         Entry::Line(length as u64)
                     }
                     Vector::Absent => {
-                        write_bad(line, address, &bytes[..1]);
+                        push_bad(held, address, &bytes[..1]);
                         Entry::Line(1)
                     }
                 },

@@ -22,7 +22,7 @@ pub mod outside;
 pub mod text;
 
 pub use outside::array_sink::ArraySink;
-pub use outside::gathered::Gathered;
+pub use outside::gathered::{Gathered, HELD_ROOM, Held};
 pub use outside::input::Input;
 pub use outside::joined::Joined;
 pub use outside::null_sink::NullSink;

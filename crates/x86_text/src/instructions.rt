@@ -14,7 +14,7 @@ use x86_decode::Instruction;
 use x86_operands::Operand;
 use x86_streams::lines::cells::put;
 use x86_streams::lines::digits::{put_one, put_u8, put_u64};
-use x86_streams::lines::{Line, Place};
+use x86_streams::lines::{Line, Place, Room};
 
 /// Writes an operand after a comma and a space.
 #[inline(always)]
@@ -182,14 +182,15 @@ pub fn instruction_text(instruction: &Instruction) -> Line
     line
 }
 
-/// Writes the line of an instruction at a place over another, without its end, as `4 3 ADD rax, rbx m8`.
+/// Appends the line of an instruction at a place, without its end, as `4 3 ADD rax, rbx m8`.
 #[inline(always)]
 #[tactic(auto, unfolding(crate::specs::Lines::line_of))]
-pub fn write_instruction(line: &mut Line, place: &Place, instruction: &Instruction)
-    ensures text { line.new.items ≡ line_of place.now instruction.now }
-    ensures short { array_vec_len line.new ≤ line_width }
+pub fn push_line<const N: usize>(line: &mut Room<N>, place: &Place, instruction: &Instruction)
+    requires { array_vec_len line.old + line_room ≤ N }
+    ensures text { line.new.items ≡ line.old.items ++ line_of place.now instruction.now }
+    ensures short { array_vec_len line.new ≤ array_vec_len line.old + line_width }
 {
-    line.set(place.digits());
+    line.append(place.digits());
     let at = line.len;
     let at = put_length(&mut line.cells, at, instruction.len().to_const());
     line.len = put_instruction(&mut line.cells, at, instruction);
@@ -204,6 +205,6 @@ pub fn line_of(place: u64, instruction: &Instruction) -> Line
     ensures short { array_vec_len result ≤ line_width }
 {
     let mut line = Line::new();
-    write_instruction(&mut line, &Place::at(place), instruction);
+    push_line(&mut line, &Place::at(place), instruction);
     line
 }

@@ -7,9 +7,9 @@
 //! operand_text(&instruction.operand(1)).as_slice() // b"rbx"
 //! ```
 //!
-//! Each text is a `Line`, which takes no memory. The calls that begin with `push` append to a line that is there, for
-//! a caller's additional columns; those that begin with `write` write over it. Those that begin with `put` write a part
-//! of a text at a place in cells, as the calls of x86_streams do, for lines of a caller's own.
+//! Each text is a `Line`, which takes no memory. The calls that begin with `push` append to what is there, as a caller's
+//! columns, or the bytes that a `Gathered` holds. Those that begin with `put` write a part of a text at a place in cells,
+//! as the calls of x86_streams do, for lines of a caller's own.
 #![tactic(auto)]
 
 mod instructions;
@@ -22,11 +22,9 @@ mod refusals;
 mod registers;
 mod sizes;
 
-pub use instructions::{
-    instruction_text, line_of, push_instruction, size_number, write_instruction,
-};
+pub use instructions::{instruction_text, line_of, push_instruction, push_line, size_number};
 pub use names::{put_mnemonic, put_register};
 pub use operands::{operand_text, push_operand, put_scaled};
-pub use parts::{fields_line, write_fields};
-pub use refusals::{refusal_of, write_refusal};
+pub use parts::{fields_line, push_fields};
+pub use refusals::{push_refusal, refusal_of};
 pub use x86_streams::lines::{LINE_MAX, LINE_ROOM, Line, Place, Room};

@@ -4,13 +4,13 @@ ghost use Rattle.std.specs.Prelude.{◌≡◌, ◌+◌, ◌*◌, ◌≤◌, ◌+
 ghost use Rattle.std.specs.List.{sum_by};
 ghost use Rattle.arrayvec.specs.ArrayVec.{array_vec_len};
 ghost use Rattle.x86_fields.specs.Parts.{lists_of, HasFieldLengths};
-ghost use Rattle.x86_text.specs.Widths.{line_width};
+ghost use Rattle.x86_text.specs.Widths.{line_room, line_width};
 ghost use Rattle.x86_text.specs.Parts.{in_order, spaced, fields_line};
 
 use x86_fields::Parts;
 use x86_streams::lines::cells::put;
 use x86_streams::lines::digits::{put_hex, put_u64};
-use x86_streams::lines::{Line, Place};
+use x86_streams::lines::{Line, Place, Room};
 
 /// How many bytes the parts have together.
 fn parts_length(parts: &Parts) -> usize
@@ -42,14 +42,15 @@ fn put_part(cells: &mut [u8], at: usize, part: &[u8]) -> usize
     }
 }
 
-/// Writes the line of the parts of an encoding at a place over another, without its end, as `fields_line` returns it.
+/// Appends the line of the parts of an encoding at a place, without its end, as `fields_line` returns it.
 #[tactic(auto, unfolding(crate::specs::Parts::fields_line))]
-pub fn write_fields(line: &mut Line, place: &Place, parts: &Parts)
-    requires { HasFieldLengths (lists_of parts.now) }
-    ensures text { line.new.items ≡ fields_line place.now (lists_of parts.now) }
-    ensures short { array_vec_len line.new ≤ line_width }
+pub fn push_fields<const N: usize>(line: &mut Room<N>, place: &Place, parts: &Parts)
+    requires fields { HasFieldLengths (lists_of parts.now) }
+    requires room { array_vec_len line.old + line_room ≤ N }
+    ensures text { line.new.items ≡ line.old.items ++ fields_line place.now (lists_of parts.now) }
+    ensures short { array_vec_len line.new ≤ array_vec_len line.old + line_width }
 {
-    line.set(place.digits());
+    line.append(place.digits());
     let at = line.len;
     let cells: &mut [u8] = &mut line.cells;
     let at = put(cells, at, b' ');
@@ -75,6 +76,6 @@ pub fn fields_line(place: u64, parts: &Parts) -> Line
     ensures short { array_vec_len result ≤ line_width }
 {
     let mut line = Line::new();
-    write_fields(&mut line, &Place::at(place), parts);
+    push_fields(&mut line, &Place::at(place), parts);
     line
 }

@@ -1,20 +1,21 @@
 //! The lines of refusals.
 
-ghost use Rattle.std.specs.Prelude.{◌≡◌, ◌≤◌};
+ghost use Rattle.std.specs.Prelude.{◌≡◌, ◌+◌, ◌≤◌, ◌++◌};
 ghost use Rattle.arrayvec.specs.ArrayVec.{array_vec_len};
-ghost use Rattle.x86_text.specs.Widths.{line_width};
+ghost use Rattle.x86_text.specs.Widths.{line_room, line_width};
 ghost use Rattle.x86_text.specs.Lines.{refusal_of};
 
 use x86_fields::DecodeError;
-use x86_streams::lines::{Line, Place};
+use x86_streams::lines::{Line, Place, Room};
 
-/// Writes the line of a refusal at a place over another, without its end.
+/// Appends the line of a refusal at a place, without its end.
 #[tactic(auto, unfolding(crate::specs::Lines::refusal_of))]
-pub fn write_refusal(line: &mut Line, place: &Place, error: DecodeError)
-    ensures text { line.new.items ≡ refusal_of place.now error }
-    ensures short { array_vec_len line.new ≤ line_width }
+pub fn push_refusal<const N: usize>(line: &mut Room<N>, place: &Place, error: DecodeError)
+    requires { array_vec_len line.old + line_room ≤ N }
+    ensures text { line.new.items ≡ line.old.items ++ refusal_of place.now error }
+    ensures short { array_vec_len line.new ≤ array_vec_len line.old + line_width }
 {
-    line.set(place.digits());
+    line.append(place.digits());
     line.extend(b" error: ");
     line.extend(x86_arch::DecodeError::description(&error).as_bytes());
 }
@@ -25,6 +26,6 @@ pub fn refusal_of(place: u64, error: DecodeError) -> Line
     ensures short { array_vec_len result ≤ line_width }
 {
     let mut line = Line::new();
-    write_refusal(&mut line, &Place::at(place), error);
+    push_refusal(&mut line, &Place::at(place), error);
     line
 }

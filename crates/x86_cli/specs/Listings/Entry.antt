@@ -1,5 +1,5 @@
 -- The next entry of a listing.
-use Rattle.std.specs.Prelude.{◌≡◌, ℕ, ◌+◌, ◌<◌, ◌≤◌, List, [], ◌∷◌, length, drop, Option, None}
+use Rattle.std.specs.Prelude.{◌≡◌, ℕ, ◌+◌, ◌<◌, ◌≤◌, List, [], ◌∷◌, ◌++◌, length, drop, Option, None}
 use Rattle.x86_streams.specs.declared.text.reader.Ending.{Ending}
 use Rattle.x86_cli.specs.declared.listings.listing.Entry.{Entry}
 use Rattle.x86_streams.specs.Outside.Stop.{Stop}
@@ -26,3 +26,8 @@ IsEntry at known (Entry.Ended e) place text ended window position room =
     (xs : List ℕ) (stop : Stop) → at place (rest_of ended window position room xs stop) ≡ at_end e
 IsEntry at known Entry.Undecided place text ended window position room = (ended ≡ None) × (length window < 15)
     × ((t : Text) → NeedsMore 1 t → known place (with_bytes window t) ≡ at_end Ending.Fault)
+
+-- The text of a line comes after what is held. Another entry leaves that.
+abbrev pub Appends : Entry → (text old new : List ℕ) → Type 0
+Appends (Entry.Line n) text old new = new ≡ old ++ text
+Appends entry text old new = new ≡ old

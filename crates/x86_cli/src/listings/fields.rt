@@ -6,7 +6,8 @@ ghost use Rattle.x86_text.specs.Parts.{fields_line};
 use crate::listings::line::Lines;
 use x86_decode::{InstDecoder, Instruction};
 use x86_layout::split_decoded;
-use x86_text::{Line, Place, write_fields};
+use x86_streams::Held;
+use x86_text::{Place, push_fields};
 
 /// The lines of `fields`, which show the parts of each encoding.
 #[derive(Clone, Copy, Drop)]
@@ -15,14 +16,14 @@ pub struct FieldLines;
 impl Lines for FieldLines {
     ghost text = { λ s strict place instruction bytes. fields_line place (parts_of strict bytes) };
 
-    fn write(
+    fn push(
         &self,
         decoder: &InstDecoder,
         place: &Place,
         instruction: &Instruction,
         bytes: &[u8],
-        line: &mut Line,
+        held: &mut Held,
     ) {
-        write_fields(line, place, &split_decoded(decoder, instruction, bytes));
+        push_fields(held, place, &split_decoded(decoder, instruction, bytes));
     }
 }

@@ -2,14 +2,14 @@
 
 ghost use Rattle.x86_decode.specs.Decoder.{is_strict};
 ghost use Rattle.x86_decode.specs.Instruction.{length_of};
-ghost use Rattle.std.specs.Prelude.{◌≡◌, ◌≢◌, ℕ, Bool, false, ◌<◌, ◌≤◌, ◌^◌, [], ◌∷◌};
+ghost use Rattle.std.specs.Prelude.{◌≡◌, ◌≢◌, ℕ, Bool, List, false, ◌+◌, ◌<◌, ◌≤◌, ◌^◌, [], ◌∷◌, ◌++◌, take, drop, length, OnOk};
 ghost use Rattle.arrayvec.specs.ArrayVec.{array_vec_len};
 ghost use Rattle.x86_text.specs.Widths.{line_width};
 ghost use Rattle.x86_cli.specs.Listings.Line.{line};
 ghost use Rattle.x86_streams.specs.Outside.Chain.{Puts};
 ghost use Rattle.x86_streams.specs.Text.{Text};
 ghost use Rattle.x86_cli.specs.Listings.Closes.{Closes};
-ghost use Rattle.x86_cli.specs.Listings.Entry.{IsEntry};
+ghost use Rattle.x86_cli.specs.Listings.Entry.{Appends, IsEntry};
 ghost use Rattle.x86_cli.specs.Listings.Listing.{Listing, at_end, listing_at};
 ghost use Rattle.x86_cli.specs.Listings.Performs.{Performs};
 
@@ -19,7 +19,7 @@ use crate::listings::status::{Finished, Status};
 use crate::text::window::{Decoded, decode_next};
 use x86_decode::{InstDecoder, Instruction};
 use x86_fields::DecodeError;
-use x86_streams::{Ending, Gathered, Input, Output, Window, WriteFailed};
+use x86_streams::{Ending, Gathered, Held, Input, Output, Window, WriteFailed};
 use x86_text::{LINE_ROOM, Line, Place, Room, refusal_of};
 
 /// Writes a line with its end.
@@ -38,6 +38,27 @@ pub fn put_line<const N: usize, W, O: Output<W>>(
 {
     text.push(b'\n');
     out.put(output, writer, text.as_slice())
+}
+
+/// Ends the line that was written after the first `held` bytes.
+#[inline(always)]
+fn end_line<W, O: Output<W>>(
+    output: &O,
+    out: &mut Gathered,
+    writer: &mut W,
+    held: usize,
+) -> Result<(), WriteFailed>
+    requires held { held ≤ array_vec_len out.old.bytes }
+    requires fits { array_vec_len out.old.bytes < held + 65536 }
+    requires room { array_vec_len out.old.bytes < 66560 }
+    requires empty { O.gathers ≡ false → held ≡ 0 }
+    ensures puts { Puts O.writes O.flushes O.gathers result
+        (line (drop held out.old.bytes.items)) (take held out.old.bytes.items)
+        out.new.bytes.items writer.old writer.new }
+    ensures short { OnOk result (array_vec_len out.new.bytes ≤ 65536) }
+{
+    out.bytes.push(b'\n');
+    out.take_written(output, writer, held)
 }
 
 /// Sends all that was gathered, at the end of a listing.
@@ -139,21 +160,22 @@ pub trait Course<const N: usize> {
     /// What is listed of a text from a place on whatever follows it, and its end.
     ghost knows: { Self → Bool → ℕ → Text → Listing };
 
-    /// The next entry at a place. A line is written over `line`, without its end.
+    /// The next entry at a place. The text of a line is appended to what is held, without its end.
     fn next(
         &self,
         decoder: &InstDecoder,
         window: &Window,
         place: &Place,
         inst: &mut Instruction,
-        line: &mut Room<N>,
+        held: &mut Held,
     ) -> Entry
-        ensures next { IsEntry
-            (lists self.now (is_strict decoder.now)) (knows self.now (is_strict decoder.now))
-            result place.now line.new.items
+        requires { array_vec_len held.old ≤ 65536 }
+        ensures next { (text : List ℕ) × Appends result text held.old.items held.new.items
+            × IsEntry (lists self.now (is_strict decoder.now))
+            (knows self.now (is_strict decoder.now)) result place.now text
             window.now.ended window.now.bytes.items window.now.text.position
             window.now.text.room }
-        ensures short { (n : ℕ) → result ≡ Entry.Line n → array_vec_len line.new < N };
+        ensures short { array_vec_len held.new < array_vec_len held.old + N };
 }
 
 /// The listing that ends at a refusal, with these lines.
@@ -175,7 +197,7 @@ impl<L: Lines + Drop> Course<LINE_ROOM> for UpToRefusal<L> {
         window: &Window,
         place: &Place,
         inst: &mut Instruction,
-        line: &mut Line,
+        held: &mut Held,
     ) -> Entry {
         decoder_laws();
         match decode_next(window, decoder, inst) {
@@ -184,7 +206,7 @@ impl<L: Lines + Drop> Course<LINE_ROOM> for UpToRefusal<L> {
                 let length = length_of(inst);
                 let bytes = window.bytes.as_slice();
                 self.lines
-                    .write(decoder, place, inst, &bytes[..length as usize], line);
+                    .push(decoder, place, inst, &bytes[..length as usize], held);
                 Entry::Line(length)
             }
             Some(Decoded::Refused(error)) => Entry::Refused(error),
@@ -202,7 +224,7 @@ pub fn list<const N: usize, C: Course<N>, E, O: Input<E> + Output<E>>(
     outside: &O,
     streams: &mut E,
 ) -> Finished
-    requires size { N ≤ 65536 }
+    requires size { N ≤ 1024 }
     requires max { max < 2 ^ 62 }
     ensures { Performs O.reads O.writes O.flushes O.gathers (record {
       max = max;
@@ -213,13 +235,13 @@ pub fn list<const N: usize, C: Course<N>, E, O: Input<E> + Output<E>>(
     let mut window = Window::new(max);
     let mut out = Gathered::new();
     let mut inst = Instruction::invalid();
-    let mut line: Room<N> = Room::new();
     let mut place = Place::at(0);
     'lines: loop {
         window.take_known();
-        match course.next(decoder, &window, &place, &mut inst, &mut line) {
+        let held = out.bytes.len();
+        match course.next(decoder, &window, &place, &mut inst, &mut out.bytes) {
             Entry::Line(length) => {
-                match put_line(outside, &mut out, streams, &mut line) {
+                match end_line(outside, &mut out, streams, held) {
                     Ok(()) => {}
                     Err(failed) => return Finished::of_failed(failed),
                 }

@@ -8,8 +8,8 @@ use crate::listings::listing::{Course, Entry, length_of};
 use crate::text::window::AtRefusal;
 use x86_decode::{InstDecoder, Instruction};
 use x86_fields::DecodeError;
-use x86_streams::Window;
-use x86_text::{LINE_ROOM, Line, Place, write_instruction, write_refusal};
+use x86_streams::{Held, Window};
+use x86_text::{LINE_ROOM, Place, push_line, push_refusal};
 
 /// The listing of `sweep`: a line for each cut.
 pub struct PastRefusals;
@@ -47,19 +47,19 @@ impl Course<LINE_ROOM> for PastRefusals {
         window: &Window,
         place: &Place,
         inst: &mut Instruction,
-        line: &mut Line,
+        held: &mut Held,
     ) -> Entry {
         decoder_laws();
         match decoder.decode_slice_into(inst, window.bytes.as_slice()) {
             Ok(()) => {
-                write_instruction(line, place, inst);
+                push_line(held, place, inst);
                 Entry::Line(length_of(inst))
             }
             Err(error) => match shown_at(window, error) {
                 AtRefusal::Undecided => Entry::Undecided,
                 AtRefusal::Ended(ending) => Entry::Ended(ending),
                 AtRefusal::Refused => {
-                    write_refusal(line, place, error);
+                    push_refusal(held, place, error);
                     Entry::Line(1)
                 }
             },

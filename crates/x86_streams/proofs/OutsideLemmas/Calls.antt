@@ -1,12 +1,12 @@
 -- Calls of a reader and a writer, one after the other.
 use Rattle.std.proofs.Common.{◌≡◌, ◌<◌, ◌≤◌, ℕ, zero, suc, ◌+◌, List, [], ◌∷◌, ◌++◌, take, drop, IfErr, IsTrue, ◌↔◌, take-append-drop}
-use Rattle.std.proofs.Common.{length, length-take, Option, Result, Ok, Err, refl, ap, ◌∙◌, subst, sym, append_assoc, append-nil, arith}
+use Rattle.std.proofs.Common.{length, length-append, length-take, Option, Result, Ok, Err, refl, ap, ◌∙◌, subst, sym, append_assoc, append-nil, arith}
 use Rattle.std.specs.Prelude.{Bool, OnErr, OnOk, false, true, ⊤}
 use Rattle.std.specs.declared.io.Error.{Error}
 use Rattle.std.specs.declared.io.ErrorKind.TheVariants.{Interrupted}
 use Rattle.std.specs.IoError.{error_kind}
 use Rattle.std.specs.Io.{StartsWith}
-use Rattle.std.proofs.lemmas.List.{append_cancel_right, take-append-le}
+use Rattle.std.proofs.lemmas.List.{append_cancel_right, drop-append-le, take-append-le}
 use Rattle.std.specs.Io.KnownBytes.{Keeps, Appends, ReadConsumes, WriteAppends, prepend_known}
 use Rattle.std.proofs.Math.Seq.{take-append_seam}
 use Rattle.std.proofs.KnownBytes.{Keeps-refl, Keeps-trans, Appends-nil, Appends-kept, prepend_known-nil}
@@ -43,6 +43,10 @@ all_continue_joined (x ∷ cs) ds c d = (c.0, all_continue_joined cs ds c.1 d)
 pub ends_joined : (Is : Call → Type 0) (cs ds : List Call) → EndsIn Is cs → EndsIn Is (cs ++ ds)
 ends_joined Is [] ds e = absurd e
 ends_joined Is (c ∷ cs) ds e = e
+
+on_ok_by : (a b c : List ℕ) (answer : Result ⊤ WriteFailed) → b ≡ c → OnOk answer (a ≡ b) → OnOk answer (a ≡ c)
+on_ok_by a b c (Ok x) e f = f ∙ e
+on_ok_by a b c (Err x) e f = tt
 
 -- What the last call says of a failure.
 abbrev Failed : Result ⊤ WriteFailed → List ℕ → List Call → Type 0
@@ -120,6 +124,17 @@ module _ {W : Type 0} (writes : W → List ℕ → Result ℕ Error → W → Ty
     waits = λ on fits. absurd (omega (arith, full, fits));
     once = λ off. let never : true ≡ false = sym on ∙ off in absurd (cc);
   }
+
+  -- the first k bytes are held, and the others are the piece; of those that are held some were sent
+  pub puts_before : (gathers : Bool) (answer : Result ⊤ WriteFailed) (bytes new : List ℕ) (k n : ℕ) (w w' : W) → gathers ≡ true →
+      Sends writes flushes answer [] (take k bytes) (drop n (take k bytes)) w w' → n ≤ length (take k bytes) → OnOk answer (new ≡ drop n bytes) →
+      OnErr answer (new ≡ drop n (take k bytes)) → 65536 < length bytes → Puts writes flushes gathers answer (drop k bytes) (take k bytes) new w w'
+  puts_before gathers answer bytes new k n w w' on s le is left full =
+      let whole : take k bytes ++ drop k bytes ≡ bytes = take-append-drop k bytes in
+      let cut : drop n bytes ≡ drop n (take k bytes) ++ drop k bytes = ap (drop n) (sym whole) ∙ drop-append-le n (take k bytes) (drop k bytes) le in
+      let after = on_ok_by new (drop n bytes) (drop n (take k bytes) ++ drop k bytes) answer cut is in
+      puts_new gathers answer (drop k bytes) (take k bytes) (drop n (take k bytes)) new w w' on s after left
+      (omega (arith, full, ap length whole, length-append (take k bytes) (drop k bytes)))
 
   -- a piece that fits
   abbrev pub puts_fitting : (gathers : Bool) (piece held new : List ℕ) (w : W) → gathers ≡ true → new ≡ held ++ piece →

@@ -1,6 +1,7 @@
 //! Places in an image.
 
-ghost use Rattle.std.specs.Prelude.{◌≡◌, ◌+◌, ◌<◌, ◌^◌, decimal};
+ghost use Rattle.std.specs.Prelude.{◌≡◌, ◌+◌, ◌≤◌, ◌<◌, ◌^◌, decimal};
+ghost use Rattle.arrayvec.specs.ArrayVec.{array_vec_len};
 
 use crate::lines::room::Room;
 use std::marker::Model;
@@ -9,20 +10,21 @@ use std::marker::Model;
 #[derive(Drop)]
 pub struct Place {
     number: u64,
-    digits: Room<20>,
+    digits: Room<32>,
     /// How far the last two digits still count on, and 0 where there are fewer than three.
     spare: u64,
 }
 
 impl Model for Place {
-    ghost use Rattle.std.specs.Prelude.{ℕ, ◌≡◌, ◌≤◌, ◌<◌, ◌+◌, ◌%◌, decimal};
+    ghost use Rattle.std.specs.Prelude.{ℕ, ◌≡◌, ◌≤◌, ◌<◌, ◌+◌, ◌%◌, decimal, length};
 
     ghost Value = { ℕ };
 
     ghost view = { λ p. p.number };
 
     ghost invariant = { λ p. (p.digits.items ≡ decimal p.number) ×
-        (0 < p.spare → (100 ≤ p.number) × (p.spare + p.number % 100 ≡ 100)) };
+        (0 < p.spare → (100 ≤ p.number) × (p.spare + p.number % 100 ≡ 100)) ×
+        (length p.digits.items ≤ 20) };
 }
 
 impl Place {
@@ -49,8 +51,9 @@ impl Place {
 
     /// The decimal.
     #[inline(always)]
-    pub fn digits(&self) -> &Room<20>
-        ensures { result.now.items ≡ decimal self.now }
+    pub fn digits(&self) -> &Room<32>
+        ensures text { result.now.items ≡ decimal self.now }
+        ensures short { array_vec_len result.now ≤ 20 }
     {
         &self.digits
     }

@@ -83,17 +83,24 @@ impl<const N: usize> Room<N> {
         self.len = put_first(&mut self.cells, self.len - 2, pair_of(n), 2);
     }
 
-    /// Replaces the bytes by those of a room that is at most as large.
+    /// Appends the bytes of a room, all of whose cells are copied. Only rooms of a power of two, at most 64 bytes, can be
+    /// compiled.
     #[inline(always)]
-    pub fn set<const M: usize>(&mut self, bytes: &Room<M>)
-        requires { M ≤ N }
-        ensures text { self.new.items ≡ bytes.now.items }
-        ensures short { array_vec_len self.new ≤ M }
+    pub fn append<const M: usize>(&mut self, bytes: &Room<M>)
+        requires { array_vec_len self.old + M ≤ N }
+        ensures text { self.new.items ≡ self.old.items ++ bytes.now.items }
+        ensures len { array_vec_len self.new ≡ array_vec_len self.old + array_vec_len bytes.now }
     {
-        if let Some(beginning) = self.cells.first_chunk_mut::<M>() {
-            *beginning = bytes.cells;
-        }
-        self.len = bytes.len;
+        self.len = put_first(&mut self.cells, self.len, &bytes.cells, bytes.len);
+    }
+
+    /// Lets the bytes after the first go.
+    #[inline(always)]
+    pub fn truncate(&mut self, count: usize)
+        requires { count ≤ array_vec_len self.old }
+        ensures { self.new.items ≡ take count self.old.items }
+    {
+        self.len = count;
     }
 
     /// Lets the first bytes go.
@@ -123,6 +130,14 @@ impl<const N: usize> Room<N> {
             Ok(text) => Some(text),
             Err(_) => None,
         }
+    }
+
+    /// How many bytes there are.
+    #[inline(always)]
+    pub fn len(&self) -> usize
+        ensures { result ≡ array_vec_len self.now }
+    {
+        self.len
     }
 
     /// How many bytes still fit.

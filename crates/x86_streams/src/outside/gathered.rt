@@ -1,6 +1,7 @@
 //! Output that is gathered, without an allocation.
 
-ghost use Rattle.std.specs.Prelude.{◌≡◌, ◌≤◌, [], false, length, OnOk};
+ghost use Rattle.std.specs.Prelude.{◌≡◌, ◌+◌, ◌<◌, ◌≤◌, [], false, true, length, take, drop, OnOk};
+ghost use Rattle.arrayvec.specs.ArrayVec.{array_vec_len};
 ghost use Rattle.x86_streams.specs.Outside.Chain.{Puts, Sends, SendsAll};
 
 use crate::lines::Room;
@@ -9,12 +10,23 @@ use crate::outside::sending::{WriteFailed, flush_out, put_whole, send_out};
 
 const SIZE: usize = 65536;
 
-/// Bytes that are gathered in a buffer of 64 KiB, and sent where the next don't fit or at a flush. What a failed write
-/// leaves unsent stays in the buffer, so no byte is sent twice.
+/// The most bytes that are written after those that are gathered.
+const SPARE: usize = 1024;
+
+/// Room for both, 65,536 and 1,024.
+pub const HELD_ROOM: usize = 66560;
+
+/// The bytes that are gathered, and then those of a line that is being written.
+pub type Held = Room<HELD_ROOM>;
+
+/// At most 64 KiB of bytes that are gathered, and sent where the next don't fit or at a flush. What a failed write leaves
+/// unsent stays in the buffer, so no byte is sent twice.
+///
+/// A line may be written where it stays: its bytes are appended to `bytes`, and `take_written` then takes them.
 #[derive(Drop)]
 pub struct Gathered {
     /// What was gathered and not sent yet, in order.
-    pub bytes: Room<SIZE>,
+    pub bytes: Held,
 }
 
 impl Gathered {
@@ -56,11 +68,72 @@ impl Gathered {
         if !output.gathers() {
             return put_whole(output, writer, piece);
         }
-        if piece.len() > self.bytes.left() {
+        if piece.len() + SPARE > self.bytes.left() {
             self.send(output, writer)?;
         }
         self.bytes.extend(piece);
         Ok(())
+    }
+
+    /// Takes as a piece the bytes that were written where they stay, after the first `held`. Where it doesn't fit, those are
+    /// sent first. An output that doesn't gather is written at once.
+    #[inline(always)]
+    #[tactic(auto, using(crate::proofs::OutsideLemmas::Calls::puts_fitting))]
+    pub fn take_written<W, O: Output<W>>(
+        &mut self,
+        output: &O,
+        writer: &mut W,
+        held: usize,
+    ) -> Result<(), WriteFailed>
+        requires held { held ≤ array_vec_len self.old.bytes }
+        requires fits { array_vec_len self.old.bytes ≤ held + 65536 }
+        requires empty { O.gathers ≡ false → held ≡ 0 }
+        ensures puts { Puts O.writes O.flushes O.gathers result
+            (drop held self.old.bytes.items) (take held self.old.bytes.items)
+            self.new.bytes.items writer.old writer.new }
+        ensures short { OnOk result (array_vec_len self.new.bytes ≤ 65536) }
+    {
+        if output.gathers() && self.bytes.len() <= SIZE {
+            return Ok(());
+        }
+        self.send_before(output, writer, held)
+    }
+
+    /// Takes the bytes after the first `held` as a piece, where they don't fit or aren't gathered.
+    #[cold]
+    #[inline(never)]
+    fn send_before<W, O: Output<W>>(
+        &mut self,
+        output: &O,
+        writer: &mut W,
+        held: usize,
+    ) -> Result<(), WriteFailed>
+        requires held { held ≤ array_vec_len self.old.bytes }
+        requires fits { array_vec_len self.old.bytes ≤ held + 65536 }
+        requires empty { O.gathers ≡ false → held ≡ 0 }
+        requires full { O.gathers ≡ true → 65536 < array_vec_len self.old.bytes }
+        ensures puts { Puts O.writes O.flushes O.gathers result
+            (drop held self.old.bytes.items) (take held self.old.bytes.items)
+            self.new.bytes.items writer.old writer.new }
+        ensures short { OnOk result (array_vec_len self.new.bytes ≤ 65536) }
+    {
+        if !output.gathers() {
+            let result = put_whole(output, writer, self.bytes.as_slice());
+            self.bytes.clear();
+            return result;
+        }
+        let (sent, result) = send_out(output, writer, &self.bytes.as_slice()[..held]);
+        match result {
+            Ok(()) => {
+                self.bytes.leave(sent);
+                Ok(())
+            }
+            Err(failed) => {
+                self.bytes.truncate(held);
+                self.bytes.leave(sent);
+                Err(failed)
+            }
+        }
     }
 
     /// Sends what was gathered, and flushes the writer.

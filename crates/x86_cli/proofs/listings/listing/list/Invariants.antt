@@ -9,6 +9,7 @@ invariant-lines g l = record {
   live : Live g.O.Input.reads g.O.Output.writes g.O.Output.flushes g.O.Output.gathers (g.C.Course.lists l.course l.decoder.strict)
       (g.C.Course.knows l.course l.decoder.strict) l.fn.max l.fn.streams
       image l.place l.window.ended l.window.bytes.items l.window.text l.out.bytes.items l.streams;
+  short : length l.out.bytes.items ≤ 65536;
   fits : l.place + length l.window.bytes.items + l.window.text.room ≤ l.fn.max;
 }
 

@@ -1,4 +1,4 @@
-use Rattle.std.proofs.Common.{◌≡◌, ◌≤◌, length, take, Ok, Err, ap, ◌∙◌, sym, refl, arith, length-take-le}
+use Rattle.std.proofs.Common.{[], ◌≡◌, ◌≤◌, length, take, Ok, Err, ap, ◌∙◌, sym, refl, arith, length-take-le}
 use Rattle.x86_decode.specs.Answer.{answer_of}
 use Rattle.x86_cli.specs.declared.listings.listing.Entry.TheVariants as entry
 use Rattle.x86_cli.proofs.ListingLemmas.Sweep.{some_bytes}
@@ -11,29 +11,39 @@ use Rattle.x86_objdump.proofs.listing.ShowAtCourseSHOWN_ROOM.next.Goals as goal
 pub returns-in-Ok-clause-next : goal.returns-in-Ok-clause-next
 returns-in-Ok-clause-next c =
     let here = sym (c.in-Ok.ensures.value ∙ ap (answer_of c.args.decoder.now.strict) c.as_slice-bytes.ensures) in
-    let is = rw (c.as_slice-bytes.ensures, c.number.ensures) at c.write_shown.ensures.text in
-    entry_line c.args.decoder.now.strict c.args.self.now.base
-    (c.decoder_laws.ensures _) c.args.window.now.ended c.args.place.now c.args.window.now.bytes.items c.args.window.now.text.position
-    c.args.window.now.text.room (Ok c.decode_slice_into.new.inst) here (λ _. refl)
-    (some_bytes c.args.decoder.now.strict (c.decoder_laws.ensures _) c.args.window.now.bytes.items c.args.window.now.bytes.items
-    (Ok c.decode_slice_into.new.inst) (λ f. cc) (sym here) refl)
-    _ _ (ap entry.Line c.length_of-length.ensures) is
+    let is = rw (c.as_slice-bytes.ensures, c.number.ensures) at c.push_shown.ensures.text in (
+      _,
+      is,
+      entry_line c.args.decoder.now.strict c.args.self.now.base
+          (c.decoder_laws.ensures _) c.args.window.now.ended c.args.place.now c.args.window.now.bytes.items c.args.window.now.text.position
+          c.args.window.now.text.room (Ok c.decode_slice_into.new.inst) here (λ _. refl)
+          (some_bytes c.args.decoder.now.strict (c.decoder_laws.ensures _) c.args.window.now.bytes.items c.args.window.now.bytes.items
+          (Ok c.decode_slice_into.new.inst) (λ f. cc) (sym here) refl)
+          _ _ (ap entry.Line c.length_of-length.ensures) refl,
+    )
 
 pub returns-in-Undecided-clause-next : goal.returns-in-Undecided-clause-next
 returns-in-Undecided-clause-next c =
     let here = sym (c.in-Err.ensures.value ∙ ap (answer_of c.args.decoder.now.strict) c.as_slice-bytes.ensures) in
-    entry_undecided c.args.decoder.now.strict c.args.self.now.base
-    (c.decoder_laws.ensures _) c.args.window.now.ended c.args.place.now c.args.line.now.items c.args.window.now.bytes.items
-    c.args.window.now.text.position c.args.window.now.text.room (Err c.in-Err.error) c.in-Undecided.ensures.0 here
-    (ap (λ e. is_open_by (Err e) (vector_of c.args.window.now.bytes.items)) c.in-Undecided.ensures.1 ∙ open_exhausted (vector_of c.args.window.now.bytes.items))
+    let more = ap (λ e. is_open_by (Err e) (vector_of c.args.window.now.bytes.items)) c.in-Undecided.ensures.1 in (
+      [],
+      refl,
+      entry_undecided c.args.decoder.now.strict c.args.self.now.base
+          (c.decoder_laws.ensures _) c.args.window.now.ended c.args.place.now [] c.args.window.now.bytes.items
+          c.args.window.now.text.position c.args.window.now.text.room (Err c.in-Err.error) c.in-Undecided.ensures.0 here
+          (more ∙ open_exhausted (vector_of c.args.window.now.bytes.items)),
+    )
 
 pub returns-in-Ended-clause-next : goal.returns-in-Ended-clause-next
-returns-in-Ended-clause-next c =
-    entry_ended c.args.decoder.now.strict c.args.self.now.base c.args.window.now.ended c.args.place.now c.args.line.now.items
-    c.args.window.now.bytes.items c.args.window.now.text.position c.args.window.now.text.room _ c.in-Ended.ensures.0 c.in-Ended.ensures.1
+returns-in-Ended-clause-next c = (
+  [],
+  refl,
+  entry_ended c.args.decoder.now.strict c.args.self.now.base c.args.window.now.ended c.args.place.now []
+      c.args.window.now.bytes.items c.args.window.now.text.position c.args.window.now.text.room _ c.in-Ended.ensures.0 c.in-Ended.ensures.1,
+)
 
-pub slice_bounds-write_vector-end : goal.slice_bounds-write_vector-end
-slice_bounds-write_vector-end c =
+pub slice_bounds-push_vector-end : goal.slice_bounds-push_vector-end
+slice_bounds-push_vector-end c =
     let here = sym (c.in-Err.ensures.value ∙ ap (answer_of c.args.decoder.now.strict) c.as_slice-bytes.ensures) in
     let v = c.vector_at.ensures ∙ (λ i. once_ended (c.is_some.ensures i) (vector_of (c.as_slice-bytes.ensures i))) in
     let fits = whole_within c.args.decoder.now.strict c.args.self.now.base
@@ -42,8 +52,8 @@ slice_bounds-write_vector-end c =
     let inside : c.in-Whole.length ≤ length c.as_slice-bytes.result.now = omega (arith, fits.0, ap length c.as_slice-bytes.ensures) in
     sym (length-take-le c.in-Whole.length c.as_slice-bytes.result.now inside)
 
-pub write_vector-requires : goal.write_vector-requires
-write_vector-requires c =
+pub push_vector-requires-clause-few : goal.push_vector-requires-clause-few
+push_vector-requires-clause-few c =
     let here = sym (c.in-Err.ensures.value ∙ ap (answer_of c.args.decoder.now.strict) c.as_slice-bytes.ensures) in
     let v = c.vector_at.ensures ∙ (λ i. once_ended (c.is_some.ensures i) (vector_of (c.as_slice-bytes.ensures i))) in
     let fits = whole_within c.args.decoder.now.strict c.args.self.now.base
@@ -52,8 +62,8 @@ write_vector-requires c =
     let inside : c.in-Whole.length ≤ length c.as_slice-bytes.result.now = omega (arith, fits.0, ap length c.as_slice-bytes.ensures) in
     omega (arith, length-take-le c.in-Whole.length c.as_slice-bytes.result.now inside, fits.1)
 
-pub slice_bounds-write_bad-end : goal.slice_bounds-write_bad-end
-slice_bounds-write_bad-end c =
+pub slice_bounds-push_bad-end : goal.slice_bounds-push_bad-end
+slice_bounds-push_bad-end c =
     let here = sym (c.in-Err.ensures.value ∙ ap (answer_of c.args.decoder.now.strict) c.as_slice-bytes.ensures) in
     let v = c.vector_at.ensures ∙ (λ i. once_ended (c.is_some.ensures i) (vector_of (c.as_slice-bytes.ensures i))) in
     let some = refused_some c.args.decoder.now.strict c.args.self.now.base
@@ -66,26 +76,35 @@ pub returns-in-Whole-clause-next : goal.returns-in-Whole-clause-next
 returns-in-Whole-clause-next c =
     let here = sym (c.in-Err.ensures.value ∙ ap (answer_of c.args.decoder.now.strict) c.as_slice-bytes.ensures) in
     let v = c.vector_at.ensures ∙ (λ i. once_ended (c.is_some.ensures i) (vector_of (c.as_slice-bytes.ensures i))) in
-    let is = rw (c.as_slice-bytes.ensures, c.number.ensures) at c.write_vector.ensures.text in
-    vector_line c.args.decoder.now.strict c.args.self.now.base
-    (c.decoder_laws.ensures _) c.args.window.now.ended c.args.place.now c.args.window.now.bytes.items c.args.window.now.text.position
-    c.args.window.now.text.room c.in-Err.error here c.in-Refused.ensures c.vector_at.result v c.in-Whole.length c.in-Whole.is
-    _ _ refl is
+    let is = rw (c.as_slice-bytes.ensures, c.number.ensures) at c.push_vector.ensures.text in (
+      _,
+      is,
+      vector_line c.args.decoder.now.strict c.args.self.now.base
+          (c.decoder_laws.ensures _) c.args.window.now.ended c.args.place.now c.args.window.now.bytes.items c.args.window.now.text.position
+          c.args.window.now.text.room c.in-Err.error here c.in-Refused.ensures c.vector_at.result v c.in-Whole.length c.in-Whole.is
+          _ _ refl refl,
+    )
 
 pub returns-in-Cut-clause-next : goal.returns-in-Cut-clause-next
 returns-in-Cut-clause-next c =
     let here = sym (c.in-Err.ensures.value ∙ ap (answer_of c.args.decoder.now.strict) c.as_slice-bytes.ensures) in
-    let v = c.vector_at.ensures ∙ (λ i. once_ended (c.is_some.ensures i) (vector_of (c.as_slice-bytes.ensures i))) in
-    cut_undecided c.args.decoder.now.strict c.args.self.now.base
-    (c.decoder_laws.ensures _) c.args.window.now.ended c.args.place.now c.args.window.now.bytes.items c.args.window.now.text.position
-    c.args.window.now.text.room c.in-Err.error here c.in-Refused.ensures c.vector_at.result v c.in-Cut.is c.args.line.now.items
+    let v = c.vector_at.ensures ∙ (λ i. once_ended (c.is_some.ensures i) (vector_of (c.as_slice-bytes.ensures i))) in (
+      [],
+      refl,
+      cut_undecided c.args.decoder.now.strict c.args.self.now.base
+          (c.decoder_laws.ensures _) c.args.window.now.ended c.args.place.now c.args.window.now.bytes.items c.args.window.now.text.position
+          c.args.window.now.text.room c.in-Err.error here c.in-Refused.ensures c.vector_at.result v c.in-Cut.is [],
+    )
 
 pub returns-in-Absent-clause-next : goal.returns-in-Absent-clause-next
 returns-in-Absent-clause-next c =
     let here = sym (c.in-Err.ensures.value ∙ ap (answer_of c.args.decoder.now.strict) c.as_slice-bytes.ensures) in
     let v = c.vector_at.ensures ∙ (λ i. once_ended (c.is_some.ensures i) (vector_of (c.as_slice-bytes.ensures i))) in
-    let is = rw (c.as_slice-bytes.ensures, c.number.ensures) at c.write_bad.ensures.text in
-    bad_line c.args.decoder.now.strict c.args.self.now.base
-    (c.decoder_laws.ensures _) c.args.window.now.ended c.args.place.now c.args.window.now.bytes.items c.args.window.now.text.position
-    c.args.window.now.text.room c.in-Err.error here c.in-Refused.ensures c.vector_at.result v c.in-Absent.is
-    _ _ refl is
+    let is = rw (c.as_slice-bytes.ensures, c.number.ensures) at c.push_bad.ensures.text in (
+      _,
+      is,
+      bad_line c.args.decoder.now.strict c.args.self.now.base
+          (c.decoder_laws.ensures _) c.args.window.now.ended c.args.place.now c.args.window.now.bytes.items c.args.window.now.text.position
+          c.args.window.now.text.room c.in-Err.error here c.in-Refused.ensures c.vector_at.result v c.in-Absent.is
+          _ _ refl refl,
+    )

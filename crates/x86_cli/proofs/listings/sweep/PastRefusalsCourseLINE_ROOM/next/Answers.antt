@@ -1,27 +1,39 @@
-use Rattle.std.proofs.Common.{Ok, Err, ap, refl}
+use Rattle.std.proofs.Common.{[], Ok, Err, ap, refl}
 use Rattle.x86_cli.specs.declared.listings.listing.Entry.TheVariants as entry
 use Rattle.x86_cli.proofs.ListingLemmas.Sweep.{sweep_end, sweep_line, sweep_undecided, some_bytes, some_refused}
 use Rattle.x86_cli.proofs.listings.sweep.PastRefusalsCourseLINE_ROOM.next.Goals as goal
 
 pub returns-in-Ok-clause-next : goal.returns-in-Ok-clause-next
-returns-in-Ok-clause-next c =
-    sweep_line _ (c.decoder_laws.ensures _) _ _ _ _ _ _ (Ok c.decode_slice_into.new.inst) (λ _ f. cc)
-    (some_bytes _ (c.decoder_laws.ensures _) _ _ (Ok c.decode_slice_into.new.inst) (λ f. cc) c.in-Ok.ensures.value c.as_slice.ensures)
-    c.in-Ok.ensures.value c.as_slice.ensures _ _ (ap entry.Line c.length_of.ensures) c.write_instruction.ensures.text
+returns-in-Ok-clause-next c = (
+  _,
+  c.push_line.ensures.text,
+  sweep_line _ (c.decoder_laws.ensures _) _ _ _ _ _ _ (Ok c.decode_slice_into.new.inst) (λ _ f. cc)
+      (some_bytes _ (c.decoder_laws.ensures _) _ _ (Ok c.decode_slice_into.new.inst) (λ f. cc) c.in-Ok.ensures.value c.as_slice.ensures)
+      c.in-Ok.ensures.value c.as_slice.ensures _ _ (ap entry.Line c.length_of.ensures) refl,
+)
 
 pub returns-in-Refused-clause-next : goal.returns-in-Refused-clause-next
-returns-in-Refused-clause-next c =
-    sweep_line _ (c.decoder_laws.ensures _) _ _ _ _ _ _ (Err c.in-Err.error) (λ none f. c.in-Refused.ensures.0 none (cc))
-    (some_refused _ (c.decoder_laws.ensures _) _ _ c.in-Err.error c.args.window.now.ended c.in-Err.ensures.value c.as_slice.ensures c.in-Refused.ensures)
-    c.in-Err.ensures.value c.as_slice.ensures _ _ refl c.write_refusal.ensures.text
+returns-in-Refused-clause-next c = (
+  _,
+  c.push_refusal.ensures.text,
+  sweep_line _ (c.decoder_laws.ensures _) _ _ _ _ _ _ (Err c.in-Err.error) (λ none f. c.in-Refused.ensures.0 none (cc))
+      (some_refused _ (c.decoder_laws.ensures _) _ _ c.in-Err.error c.args.window.now.ended c.in-Err.ensures.value c.as_slice.ensures c.in-Refused.ensures)
+      c.in-Err.ensures.value c.as_slice.ensures _ _ refl refl,
+)
 
 pub returns-in-Undecided-clause-next : goal.returns-in-Undecided-clause-next
-returns-in-Undecided-clause-next c =
-    sweep_undecided c.args.decoder.now.strict (c.decoder_laws.ensures _) c.args.window.now.ended c.args.place.now c.args.line.now.items
-    c.args.window.now.bytes.items _ c.args.window.now.text.position c.args.window.now.text.room (Err c.in-Err.error) c.in-Undecided.ensures.0
-    (ap Err c.in-Undecided.ensures.1) c.in-Err.ensures.value c.as_slice.ensures
+returns-in-Undecided-clause-next c = (
+  [],
+  refl,
+  sweep_undecided c.args.decoder.now.strict (c.decoder_laws.ensures _) c.args.window.now.ended c.args.place.now []
+      c.args.window.now.bytes.items _ c.args.window.now.text.position c.args.window.now.text.room (Err c.in-Err.error) c.in-Undecided.ensures.0
+      (ap Err c.in-Undecided.ensures.1) c.in-Err.ensures.value c.as_slice.ensures,
+)
 
 pub returns-in-Ended-clause-next : goal.returns-in-Ended-clause-next
-returns-in-Ended-clause-next c =
-    sweep_end c.args.decoder.now.strict c.args.window.now.ended c.args.place.now c.args.line.now.items c.args.window.now.bytes.items
-    c.args.window.now.text.position c.args.window.now.text.room _ c.in-Ended.ensures.0 c.in-Ended.ensures.1
+returns-in-Ended-clause-next c = (
+  [],
+  refl,
+  sweep_end c.args.decoder.now.strict c.args.window.now.ended c.args.place.now [] c.args.window.now.bytes.items
+      c.args.window.now.text.position c.args.window.now.text.room _ c.in-Ended.ensures.0 c.in-Ended.ensures.1,
+)

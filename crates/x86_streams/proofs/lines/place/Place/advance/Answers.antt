@@ -1,4 +1,5 @@
 use Rattle.std.proofs.Common.{◌≡◌, ◌+◌, ◌-◌, ◌<◌, ◌^◌, ◌%◌, ◌++◌, arith, length, take, decimal, ap, ◌∙◌}
+use Rattle.std.proofs.lemmas.Fmt.{length-decimal-le}
 use Rattle.itoa.proofs.Decimal.{pair}
 use Rattle.x86_streams.proofs.LineLemmas.Place.{two_digits, counts_on, last_two}
 use Rattle.x86_streams.proofs.lines.place.Place.advance.Goals as goal
@@ -22,4 +23,8 @@ invariant_of-self c =
     let number : 100 - (c.self.inside.spare - by) ≡ (n + by) % 100 = omega (arith, low, h.1) in
     let kept = ap (λ xs. take (length xs - 2) xs ++ pair (100 - (c.self.inside.spare - by))) c.self.invariant.0 in
     let written = ap (λ k. take (length (decimal n) - 2) (decimal n) ++ pair k) number in
-    (c.set_last_digits.ensures ∙ kept ∙ written ∙ counts_on n by h.0 no_carry fits, λ more. (omega (arith, h.0), omega (arith, low, h.1)))
+    let digits = c.set_last_digits.ensures ∙ kept ∙ written ∙ counts_on n by h.0 no_carry fits in (
+      digits,
+      λ more. (omega (arith, h.0), omega (arith, low, h.1)),
+      omega (arith, ap length digits, length-decimal-le 20 (n + by) (omega arith) (omega (arith, fits)) (omega (arith, fits))),
+    )
