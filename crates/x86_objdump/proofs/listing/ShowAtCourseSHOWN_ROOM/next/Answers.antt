@@ -52,8 +52,8 @@ slice_bounds-push_vector-end c =
     let inside : c.in-Whole.length ≤ length c.as_slice-bytes.result.now = omega (arith, fits.0, ap length c.as_slice-bytes.ensures) in
     sym (length-take-le c.in-Whole.length c.as_slice-bytes.result.now inside)
 
-pub push_vector-requires-clause-few : goal.push_vector-requires-clause-few
-push_vector-requires-clause-few c =
+pub push_vector-requires : goal.push_vector-requires
+push_vector-requires c =
     let here = sym (c.in-Err.ensures.value ∙ ap (answer_of c.args.decoder.now.strict) c.as_slice-bytes.ensures) in
     let v = c.vector_at.ensures ∙ (λ i. once_ended (c.is_some.ensures i) (vector_of (c.as_slice-bytes.ensures i))) in
     let fits = whole_within c.args.decoder.now.strict c.args.self.now.base
