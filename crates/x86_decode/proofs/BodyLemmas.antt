@@ -23,10 +23,17 @@ use Rattle.x86_decode.specs.Walk.{head_step, opcode_step, some_row, row_step, wa
 use Rattle.x86_groups.specs.Groups.{record_of}
 use Rattle.x86_decode.specs.Grammar.{IsRefusedByRecord, allows_lock, Whole, IsSentence, DecidesByBytes, case_1, case_2, case_3, case_4}
 use Rattle.x86_decode.specs.Grammar.{EndsBetweenPieces, in_head, in_tail}
-use Rattle.x86_decode.proofs.RowSteps.{fault_error, RowYields, ends_row, takes_row, takes_row_refused, halts_row}
+use Rattle.x86_operands.proofs.RecordLemmas.{RowYields, ends_row, takes_row, takes_row_refused, halts_row}
+use Rattle.x86_operands.proofs.PlanLemmas.{fault_error}
 use Rattle.x86_decode.proofs.HeadLemmas.{IsHead, IsRun, ends_head, takes_head, out_head, OpcodeYields, OpcodeBetween, ends_opcode}
 use Rattle.x86_decode.proofs.HeadLemmas.{entry_byte, entry_rest, entry_is, entry_plain, takes_opcode, takes_vex, vex_plain, vex_final}
 use Rattle.x86_decode.proofs.HeadLemmas.{escape_beginning, EscapeBeginning, none, escape}
+
+pub ok_apart : {X : Type 0} (x : X) (e : DecodeError) → ◌≡◌ {A = Result X DecodeError} (Ok x) (Err e) → ⊥
+ok_apart x e h = cc
+
+pub same_error : {X : Type 0} (e f : DecodeError) → ◌≡◌ {A = Result X DecodeError} (Err e) (Err f) → e ≡ f
+same_error e f h = cc
 
 -- the answer of a reading where LOCK is checked
 abbrev pub verdict : Result Reading DecodeError → Result Reading DecodeError

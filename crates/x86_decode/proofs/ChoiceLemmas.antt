@@ -19,8 +19,7 @@ use Rattle.x86_operands.specs.declared.plans.Fault.TheVariants.{BadOperand}
 use Rattle.x86_operands.specs.declared.plans.ModrmUse.{ModrmUse}
 use Rattle.x86_operands.specs.declared.plans.ModrmUse.TheVariants.{EitherForm}
 use Rattle.x86_operands.specs.declared.reader.Reading.{Reading}
-use Rattle.x86_fields.specs.ModRM.{is_memory}
-use Rattle.x86_operands.specs.PlanSteps.{read_plan, filled_step, operands_step, read_modrm, refuse_fault, four_of, reading_from}
+use Rattle.x86_operands.specs.PlanSteps.{read_plan, operands_step, read_modrm, refuse_fault, four_of, reading_from}
 use Rattle.x86_operands.specs.Places.{Placed, place_of, plan_places, plan_placed, record_placed}
 use Rattle.x86_operands.specs.Forms.{form_record}
 use Rattle.x86_operands.specs.Pieces.{SpellsTail, SpellsRow, past_opcode, modrm_width}
@@ -36,9 +35,8 @@ use Rattle.x86_decode.specs.Walk.{head_step, opcode_step, some_row, walk_placed,
 use Rattle.x86_decode.specs.Answer.{answer_of, count_of}
 use Rattle.x86_decode.specs.Choices.{IsFence, BeginsWithFence}
 use Rattle.x86_decode.proofs.PlaceLemmas.{takes_placed, unplaced_walk, walk_refuses}
-use Rattle.x86_decode.proofs.BodyLemmas.{takes_refused, BodyYields, BodyBetween, ends_body, takes_whole}
+use Rattle.x86_decode.proofs.BodyLemmas.{ok_apart, takes_refused, BodyYields, BodyBetween, ends_body, takes_whole}
 use Rattle.x86_decode.proofs.Theorem.{within, beginning_at_most, walk_answers, answered_by}
-use Rattle.x86_decode.proofs.RowSteps.{ok_apart}
 use Rattle.x86_decode.proofs.AnswerLemmas.{once}
 use Rattle.x86_decode.proofs.PrintedLemmas.{is_answer, only_answer}
 
@@ -65,7 +63,7 @@ module _ (same_elsewhere : (row : TableRow) (p : Prefixes) (m : ℕ) → (group_
   compared_row : (t : Bool) (n : ℕ) (row : TableRow) (p : Prefixes) (s : State ℕ) →
       Compared (record_placed n (if t then group_record true row p else form_record row p) p s)
       (record_placed n (if t then group_record false row p else form_record row p) p s)
-  unfolding record_placed group_record read_plan filled_step operands_step
+  unfolding record_placed group_record read_plan operands_step
   compared_row true n row p s =
       compared_from (refuse_fault (group_fault row.form p) s).answer (refuse_fault (group_fault row.form p) s).after _ _
       (λ _ t. compared_from (read_modrm (group_modrm row.form) t).answer (read_modrm (group_modrm row.form) t).after _ _
@@ -79,8 +77,8 @@ module _ (same_elsewhere : (row : TableRow) (p : Prefixes) (m : ℕ) → (group_
 
   -- ---- a fence in the grammar
 
-  bare_tail : (o : ℕ) (p : Prefixes) (m : ℕ) → is_memory m ≡ false → SpellsTail (operandless o p) p m [] (fence_reading o p)
-  bare_tail o p m register = record {
+  bare_tail : (o : ℕ) (p : Prefixes) (m : ℕ) → SpellsTail (operandless o p) p m [] (fence_reading o p)
+  bare_tail o p m = record {
     pieces = record {
       memory = None;
       address = [];
@@ -268,7 +266,7 @@ module _ (same_elsewhere : (row : TableRow) (p : Prefixes) (m : ℕ) → (group_
             passed = ap (λ f. group_fault f p) h.group;
             spelled = refl;
             modrm_length = rw (ap group_modrm h.group) refl;
-            tail_spelled = rw (ap group_modrm h.group, fence_by_default is.row p is.modrm h) (bare_tail h.opcode p is.modrm h.register);
+            tail_spelled = rw (ap group_modrm h.group, fence_by_default is.row p is.modrm h) (bare_tail h.opcode p is.modrm);
           });
         }
 

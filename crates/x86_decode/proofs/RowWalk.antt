@@ -3,11 +3,11 @@ use Rattle.std.proofs.Common.{◌≡◌, ◌≢◌, ℕ, Bool, None, Result, Ok,
 use Rattle.x86_arch.specs.Reader.{State}
 use Rattle.x86_fields.specs.declared.errors.DecodeError.{DecodeError}
 use Rattle.x86_fields.specs.declared.prefixes.Prefixes.{Prefixes}
-use Rattle.x86_fields.specs.Steps.{Outcome, outcome, then_from, pure, next_byte}
+use Rattle.x86_fields.specs.Steps.{Outcome, outcome, then_from, next_byte}
 use Rattle.x86_forms.specs.declared.TableRow.{TableRow}
 use Rattle.x86_operands.specs.declared.heads.After.{After}
 use Rattle.x86_operands.specs.declared.heads.After.TheVariants as after
-use Rattle.x86_operands.specs.declared.plans.ModrmUse.TheVariants.{Absent, EitherForm}
+use Rattle.x86_operands.specs.declared.plans.ModrmUse.TheVariants.{EitherForm}
 use Rattle.x86_operands.specs.declared.places.Places.{Places}
 use Rattle.x86_operands.specs.declared.reader.Reading.{Reading}
 use Rattle.x86_operands.specs.declared.templates.Template.{Template}
@@ -67,20 +67,9 @@ has_modrm after.Nothing r bare apart h = absurd (bare refl)
 has_modrm after.Fields r bare apart h = h.1
 has_modrm after.Cells r bare apart h = h.1
 
-read_either : (s : State ℕ) → read_modrm EitherForm s ≡ next_byte s
-read_either s = by (next_byte s).answer (next_byte s).after
-  where
-    by : (r : Result ℕ DecodeError) (t : State ℕ) → then_from r t (λ m. pure m) ≡ outcome r t
-    by (Ok m) t = refl
-    by (Err e) t = refl
-
-module _ (a : After) (bare : a ≢ after.Nothing) (apart : a ≢ after.Search) where
-  pub reads_modrm : (r : Result ℕ DecodeError) (s t : State ℕ) → outcome r t ≡ next_byte s → (rec : RowRecord) → Continues a rec →
-      outcome r t ≡ read_modrm rec.modrm s
-  reads_modrm r s t e rec h = e ∙ sym (read_either s) ∙ ap (λ k. read_modrm k s) (sym (has_modrm a rec bare apart h))
-
-  pub never_absent : (rec : RowRecord) → Continues a rec → rec.modrm ≡ Absent → ⊥
-  never_absent rec h e = let same : EitherForm ≡ Absent = sym (has_modrm a rec bare apart h) ∙ e in absurd cc
+pub reads_modrm : (a : After) → a ≢ after.Nothing → a ≢ after.Search → (r : Result ℕ DecodeError) (s t : State ℕ) → outcome r t ≡ next_byte s →
+    (rec : RowRecord) → Continues a rec → outcome r t ≡ read_modrm rec.modrm s
+reads_modrm a bare apart r s t e rec h = e ∙ ap (λ k. read_modrm k s) (sym (has_modrm a rec bare apart h))
 
 -- a row of which ModRM was read, or isn't there
 module _ (a : After) (apart : a ≢ after.Search) (s : State ℕ) (n : ℕ) (strict : Bool) (row : TableRow) (p : Prefixes)

@@ -1,6 +1,6 @@
 -- What the answer of a sentence has: tied operands, and the address of its raw fields.
-use Rattle.std.proofs.Common.{◌≡◌, ℕ, ◌<◌, Bool, true, List, ◌∷◌, ◌++◌, All, Some, Result, Ok, Err, IfOk, length, refl, sym, ap, subst, ◌∙◌}
-use Rattle.std.proofs.lemmas.Bool.{cond_both}
+use Rattle.std.proofs.Common.{◌≡◌, ℕ, ◌<◌, Bool, true, List, ◌∷◌, ◌++◌, All, Some, Result, Ok, Err, IfOk, length, refl, sym, ap, subst, ◌∙◌, arith}
+use Rattle.std.proofs.lemmas.Bool.{cond_both, lt-ltb}
 use Rattle.std.specs.Prelude.{FitsSigned}
 use Rattle.std.specs.Int.{w32}
 use Rattle.x86_fields.specs.declared.errors.DecodeError.{DecodeError}
@@ -13,7 +13,7 @@ use Rattle.x86_operands.specs.Operands.{shape, operand_form}
 use Rattle.x86_operands.specs.Plans.{RowRecord}
 use Rattle.x86_decode.specs.declared.instructions.Instruction.{Instruction}
 use Rattle.x86_decode.specs.Head.{Rows, escape_bytes, clears, column_of, seen_by}
-use Rattle.x86_decode.specs.Instruction.{slot_at, operand_at}
+use Rattle.x86_decode.specs.Instruction.{slot_at, operand_at, instruction_of, operand_count}
 use Rattle.x86_decode.specs.Ties.{HasTiedOperands}
 use Rattle.x86_decode.specs.Addresses.{encodings_within, raw_within}
 use Rattle.x86_groups.specs.Groups.{record_of}
@@ -21,11 +21,39 @@ use Rattle.x86_decode.specs.Grammar.{places_of, IsSentence, IsAnswer}
 use Rattle.x86_decode.specs.Answer.{answer_of, count_of}
 use Rattle.x86_operands.specs.declared.reader.Reading.{Reading}
 use Rattle.x86_operands.specs.Asks.{modrm_of}
-use Rattle.x86_operands.specs.Pieces.{SpellsRow, names_modrm, encodings_of, HasShapeAt}
+use Rattle.x86_operands.specs.Pieces.{SpellsRow, names_modrm, encodings_of, HasShapeAt, slot_read, operand_read, AreTied}
 use Rattle.x86_decode.proofs.ByteLemmas.{Bytes, bytes_of, bytes_after, bytes_before, memory_fits}
 use Rattle.x86_operands.proofs.TieLemmas.{spelled_tied}
-use Rattle.x86_decode.proofs.TieLemmas.{tied_operands, is_shape}
 use Rattle.x86_decode.proofs.PrintedLemmas.{printed_answer}
+use Rattle.x86_operands.specs.declared.places.Places.{Places}
+
+-- ---- an instruction, from its reading
+
+module _ (reading : Reading) (places : Places) (n : ℕ) where
+  abbrev made : Instruction
+  made = instruction_of reading places n
+
+  slot_here : (k : ℕ) → k < reading.count → slot_at made k ≡ slot_read reading k
+  slot_here k below = rw (lt-ltb k reading.count below) refl
+
+  operand_here : (k : ℕ) → k < reading.count → operand_at made k ≡ operand_read reading k
+  operand_here k below = rw (lt-ltb k reading.count below) refl
+
+  present : (k : ℕ) → k < operand_count made → k < reading.count
+  present k below = omega (arith, below)
+
+  pub tied_operands : AreTied reading → HasTiedOperands made
+  tied_operands tied = record {
+    few = tied.few;
+    decoded = λ k below. let here = present k below in rw (operand_here k here) (tied.decoded k here);
+    suited = λ k below. let here = present k below in rw (operand_here k here, slot_here k here) (tied.suited k here);
+  }
+
+  -- the slot and the operand are the shape of the raw fields
+  pub is_shape : (k : ℕ) (raw : Raw) → HasShapeAt reading k raw → (slot_at made k ≡ (shape raw).0) × (operand_at made k ≡ (shape raw).1)
+  is_shape k raw shapes = (slot_here k shapes.below ∙ shapes.slot, operand_here k shapes.below ∙ shapes.operand)
+
+-- ---- tied operands
 
 pub sentence_tied : (rows : Rows) (strict : Bool) (s : List ℕ) (a : Instruction) → IsSentence rows strict s a → HasTiedOperands a
 sentence_tied rows strict s a is = rw is.yields

@@ -1,14 +1,12 @@
 //! What a row has after its opcode byte, written where it stays.
 
 ghost use Rattle.std.specs.Prelude.{◌≡◌, ◌≢◌, ℕ, Bool, IfOk, IfSome, false};
-ghost use Rattle.x86_fields.specs.ModRM.{is_memory};
 ghost use Rattle.x86_fields.specs.Steps.{outcome, then_from};
 ghost use Rattle.x86_operands.specs.OperandList.{value_if_ok, no_operands};
 ghost use Rattle.x86_operands.specs.Places.{plan_placed};
 ghost use Rattle.x86_operands.specs.Plans.{RowRecord};
 ghost use Rattle.x86_operands.specs.PlanSteps.{read_modrm};
 ghost use Rattle.x86_operands.specs.declared.heads.After.TheVariants as After;
-ghost use Rattle.x86_operands.specs.declared.plans.ModrmUse.TheVariants.{Absent};
 ghost use Rattle.x86_groups.specs.Heads.{Continues, IsSure};
 ghost use Rattle.x86_decode.specs.Walk.{placed_in, plan_at, row_placed, unread_step};
 
@@ -32,10 +30,8 @@ pub struct Unread {
 #[inline(always)]
 fn read_modrm<T: Reader<u64, u8>>(after: After, reader: &mut T) -> Result<ModRM, DecodeError>
     requires { after ≢ After.Search }
-    ensures read { (r : RowRecord) → Continues after r →
+    ensures { (r : RowRecord) → Continues after r →
         outcome result (T.state reader.new) ≡ read_modrm r.modrm (T.state reader.old) }
-    ensures absent { (r : RowRecord) → Continues after r → r.modrm ≡ Absent →
-        IfOk result (λ modrm. is_memory modrm ≡ false) }
 {
     match after {
         After::Nothing | After::Search => Ok(ModRM::absent()),

@@ -12,8 +12,8 @@ use Rattle.x86_operands.specs.Plans.{Plan, RowRecord, is_refusal, plan_encodings
 use Rattle.x86_operands.specs.Pieces.{RefusesTail, after_pieces, suffix_width}
 use Rattle.x86_operands.specs.Rows.{form_rows}
 use Rattle.x86_operands.specs.declared.order.Position.TheVariants.{Nowhere}
-use Rattle.x86_operands.specs.Templates.{has_address, somewhere}
-use Rattle.x86_operands.proofs.ColumnLemmas.{chosen_has, is_register, row_absent}
+use Rattle.x86_operands.specs.Templates.{has_address, is_register_place, somewhere}
+use Rattle.x86_operands.proofs.ColumnLemmas.{chosen_has, row_absent}
 use Rattle.x86_groups.specs.Vocabulary.{Prefixes, Fault, Refuses, Form, TableRow, TemplateRow, ModrmUse, EitherForm, is_memory}
 use Rattle.x86_groups.specs.Groups.{group_plan, group_record, record_of}
 use Rattle.x86_groups.specs.Rows.{group_rows}
@@ -23,7 +23,7 @@ abbrev has_rm : TemplateRow → Bool
 has_rm row = is_refusal row.verdict || somewhere row.template.order.rm
 
 abbrev has_rm_in_memory : TemplateRow → Bool
-has_rm_in_memory row = is_register row.at.place || has_rm row
+has_rm_in_memory row = is_register_place row.at.place || has_rm row
 
 groups_have : (f : Form) → list_all has_rm_in_memory (group_rows f) ≡ true
 unfolding group_rows
@@ -39,7 +39,7 @@ chosen_has_rm : (rows : List TemplateRow) (own : TableRow) (strict : Bool) (p : 
     is_memory m ≡ true → has_rm (choose rows own strict p m) ≡ true
 chosen_has_rm rows own strict p m h mem =
     chosen_has (λ row. has_rm row ≡ true) has_rm_in_memory own strict p m refl
-    (λ row test held. elim (or_cases (is_register row.at.place) (has_rm row) test) [
+    (λ row test held. elim (or_cases (is_register_place row.at.place) (has_rm row) test) [
       | inl is ↦ absurd (true≢false (sym held ∙ row_absent row own strict p m is mem))
       | inr e ↦ e
     ]) rows h
@@ -47,7 +47,7 @@ chosen_has_rm rows own strict p m h mem =
 abbrev plan_has_rm : Plan → Bool
 plan_has_rm plan = is_refusal plan.verdict || somewhere plan.order.rm
 
-abbrev By : Bool → TableRow → Bool → Prefixes → RowRecord
+abbrev pub By : Bool → TableRow → Bool → Prefixes → RowRecord
 By strict row group p = if group then group_record strict row p else form_record row p
 
 by_kind : (strict : Bool) (row : TableRow) (p : Prefixes) (m : ℕ) → is_memory m ≡ true → (group : Bool) →
@@ -56,7 +56,7 @@ unfolding group_record group_plan form_record form_plan
 by_kind strict row p m mem true usage = chosen_has_rm (group_rows row.form) row strict p m (groups_have row.form) mem
 by_kind strict row p m mem false usage = chosen_has_rm (form_rows row.form) row false p m (forms_have row.form usage) mem
 
-uses_either_form : (u : ModrmUse) (modrm : List ℕ) → is_memory (modrm_of u modrm) ≡ true → u ≡ EitherForm
+pub uses_either_form : (u : ModrmUse) (modrm : List ℕ) → is_memory (modrm_of u modrm) ≡ true → u ≡ EitherForm
 uses_either_form u modrm h = grind (arith, nat_tests)
 
 same_test : (a rm memory : Bool) → a ≡ false → (memory ≡ true → (a || rm) ≡ true) → (rm && memory) ≡ memory

@@ -12,13 +12,13 @@ use Rattle.x86_forms.specs.declared.words.WordRow.{WordRow}
 use Rattle.x86_forms.specs.Groups.{is_group}
 use Rattle.x86_forms.specs.Ordinals.{first_ordinal_of, ordinal_of}
 use Rattle.x86_forms.specs.Words.{carried}
-use Rattle.x86_operands.specs.declared.rows.Place.{Place}
 use Rattle.x86_operands.specs.declared.rows.TemplateRow.{TemplateRow}
 use Rattle.x86_operands.specs.declared.rows.Names.TheVariants.{Name, ByReg, Own}
 use Rattle.x86_operands.specs.Columns.{choose, is_named, is_placed, name_at, named, opcode_of, plan_of_row}
 use Rattle.x86_operands.specs.Forms.{is_searched}
 use Rattle.x86_operands.specs.Plans.{template_plan}
 use Rattle.x86_operands.specs.Templates.{is_read_at}
+use Rattle.x86_operands.proofs.HeadLemmas.{if_true, or_true}
 use Rattle.x86_operands.proofs.SureLemmas.{after, chosen, has_free_sizes, is_read, is_sure, may_be, placed_by, plan_is, sizes_by, sure_at}
 use Rattle.x86_groups.specs.declared.cells.Cell.{Cell}
 use Rattle.x86_groups.specs.declared.tables.TheConstants.{CELLS, CELLS_AT, ROWS, SPANS}
@@ -81,12 +81,8 @@ abbrev is_named_row : Names → Bool
 is_named_row Own = false
 is_named_row names = true
 
-abbrev has_modrm : Place → Bool
-has_modrm Place.Bare = false
-has_modrm place = true
-
 abbrev fits_cell : TemplateRow → Bool
-fits_cell row = (is_named_row row.names && has_modrm row.at.place) && (has_free_sizes row.template && not row.template.of_opcode)
+fits_cell row = is_named_row row.names && (has_free_sizes row.template && not row.template.of_opcode)
 
 abbrev may_fit : TemplateRow → Bool
 may_fit row = not (is_sure row) || fits_cell row
@@ -136,18 +132,11 @@ in_place : (rows : List TemplateRow) (first : ℕ) (memory : Bool) (d : Cell) (k
 in_place rows first true d = below_8 (λ k. get_or (cells_by rows first) k d ≡ cell_by rows first true k) refl refl refl refl refl refl refl refl
 in_place rows first false d = below_8 (λ k. get_or (cells_by rows first) (k + 8) d ≡ cell_by rows first false k) refl refl refl refl refl refl refl refl
 
-if_true : {X : Type 0} (test : Bool) (x y z : X) → (if test then x else z) ≡ (if test then y else z) → test ≡ true → x ≡ y
-if_true true x y z h e = h
-if_true false x y z h e = absurd cc
-
 cell_is : (f : Form) (k : ℕ) (memory : Bool) (z : List Cell) (d : Cell) → is_celled f ≡ true → k < 8 →
     get_or (cells_of f z) (if memory then k else k + 8) d ≡ cell_by (rows_of f) (first_of f) memory k
 cell_is f k memory z d is low =
     ap (λ cells. get_or cells (if memory then k else k + 8) d) (if_true (is_celled f) (cells_of f z) (cells_by (rows_of f) (first_of f)) [] (cells_are f z) is)
     ∙ in_place (rows_of f) (first_of f) memory d k low
-
-or_true : (a b : Bool) → (not a || b) ≡ true → a ≡ true → b ≡ true
-or_true a b h e = grind arith
 
 named_by : (names : Names) (own : TableRow) (m : ℕ) → is_named_row names ≡ true →
     opcode_of names own m ≡ named (operation_number (number_at names (reg_field m)) names m)
@@ -156,9 +145,6 @@ named_by names own m h = grind arith
 has_name : (names : Names) (m : ℕ) → is_named_row names ≡ true → (operation_number (number_at names (reg_field m)) names m == 0) ≡ false →
     is_named names m ≡ true
 has_name names m h e = grind arith
-
-no_bare : (place : Place) (m : ℕ) → has_modrm place ≡ true → place ≡ Place.Bare → is_memory m ≡ false
-no_bare place m h e = absurd (grind (arith, e))
 
 no_number : (of_opcode : Bool) (n k : ℕ) → not of_opcode ≡ true → of_opcode ≡ true → n ≡ k
 no_number of_opcode n k h e = absurd (grind (arith, h, e))
@@ -196,15 +182,14 @@ module _ (found : WordRow) (m : ℕ) (group : is_group found.row.form ≡ true) 
       let fits : fits_cell row ≡ true = or_true (is_sure row) (fits_cell row)
       (All-get_or (λ row. may_fit row ≡ true) (rows_of f) n d at.inside
       (AllPass-from_list_all may_fit (rows_of f) (or_true (is_celled f) _ (rows_fit f) celled))) at.sure in
-      let parts = and_parts (is_named_row row.names && has_modrm row.at.place) _ fits in
-      let named_parts = and_parts (is_named_row row.names) (has_modrm row.at.place) parts.0 in
+      let parts = and_parts (is_named_row row.names) _ fits in
       let free = and_parts (has_free_sizes row.template) (not row.template.of_opcode) parts.1 in
       subst (SureRowOf number) (in_table f n d at.inside) (λ some.
-      let name = has_name row.names m named_parts.0 (subst (λ k. (operation_number k row.names m == 0) ≡ false) at.number some) in (
-        is_read row m at.sure at.placed (no_bare row.at.place m named_parts.1),
+      let name = has_name row.names m parts.0 (subst (λ k. (operation_number k row.names m == 0) ≡ false) at.number some) in (
+        is_read row m at.sure at.placed,
         λ strict p.
             plan_is row found.row found.number (named (operation_number number row.names m)) p m at.sure
-            (named_by row.names found.row m named_parts.0 ∙ ap (λ k. named (operation_number k row.names m)) (sym at.number))
+            (named_by row.names found.row m parts.0 ∙ ap (λ k. named (operation_number k row.names m)) (sym at.number))
             (no_number row.template.of_opcode found.number (carried f) free.1)
             (sizes_by row.template m (named (operation_number number row.names m)) found.row.opcode p free.0)
             ∙ ap (λ first. plan_of_row first found.row p m)

@@ -2,19 +2,20 @@
 use Rattle.std.proofs.Common.{◌≡◌, ◌≢◌, ◌≤◌, inl, inr, Err, ℕ, ◌==◌, Bool, true, false, not, ◌||◌, [], ◌∷◌, Some, refl, sym, subst, ap, ◌∙◌, true≢false, arith}
 use Rattle.x86_arch.specs.Reader.{State}
 use Rattle.x86_fields.specs.declared.errors.DecodeError.TheVariants.{IncompleteDecoder}
-use Rattle.x86_groups.specs.Vocabulary.{Prefixes, Form, TableRow, EitherForm, Incomplete, reg_field}
+use Rattle.x86_groups.specs.Vocabulary.{Prefixes, Form, TableRow, TemplateRow, EitherForm, Incomplete, reg_field}
 use Rattle.x86_operands.specs.declared.plans.Verdict.TheVariants.{Refuses}
 use Rattle.x86_forms.specs.declared.Form.TheVariants as form
 use Rattle.x86_forms.specs.Groups.{is_group}
 use Rattle.x86_forms.specs.Words.{IsForm}
 use Rattle.x86_operands.specs.Forms.{modrm_use}
-use Rattle.x86_operands.specs.Plans.{Plan, plan_encodings}
+use Rattle.x86_operands.specs.Plans.{plan_encodings}
+use Rattle.x86_operands.specs.Templates.{size_at}
 use Rattle.x86_operands.specs.Words.{M}
 use Rattle.x86_operands.specs.Rows.{form_rows}
 use Rattle.x86_operands.specs.Asks.{immediates_width}
 use Rattle.x86_operands.specs.PlanSteps.{record_step}
-use Rattle.x86_operands.proofs.ColumnLemmas.{passes, without_gap, at_most_64, at_most_8, keeps_reg, row_fits, rows_pass}
-use Rattle.x86_operands.proofs.RowLemmas.{HasGap, row_left_out}
+use Rattle.x86_operands.proofs.ColumnLemmas.{without_gap, at_most_64, at_most_8, chosen_fits, keeps_reg, row_fits}
+use Rattle.x86_operands.proofs.RecordLemmas.{HasGap, row_left_out}
 use Rattle.x86_operands.specs.Columns.{choose, plan_of_row}
 use Rattle.x86_groups.specs.Groups.{group_fault, group_plan, group_record}
 use Rattle.x86_groups.specs.Rows.{group_rows}
@@ -48,17 +49,19 @@ pub group_either : (f : Form) → is_group f ≡ true → modrm_use f ≡ Either
 unfolding modrm_use form_rows
 group_either f h = grind arith
 
-group_passes : (row : TableRow) (strict : Bool) (p : Prefixes) (m : ℕ) → passes (may_have_gap row.form) (group_plan row p m strict) ≡ true
-unfolding group_plan
-group_passes row strict p m = rows_pass (may_have_gap row.form) (group_rows row.form) row strict p m (rows_fit row.form)
+abbrev first : Bool → TableRow → Prefixes → ℕ → TemplateRow
+first strict row p m = choose (group_rows row.form) row strict p m
+
+fits : (strict : Bool) (row : TableRow) (p : Prefixes) (m : ℕ) → row_fits (may_have_gap row.form) (first strict row p m) ≡ true
+fits strict row p m = chosen_fits (may_have_gap row.form) row strict p m (group_rows row.form) (rows_fit row.form)
 
 pub group_small : (strict : Bool) (row : TableRow) (p : Prefixes) (m : ℕ) → ((group_record strict row p).plan m).size ≤ 64
-unfolding group_record
-group_small strict row p m = at_most_64 (may_have_gap row.form) (group_plan row p m strict) (group_passes row strict p m)
+unfolding group_record group_plan
+group_small strict row p m = at_most_64 (size_at (first strict row p m).template m) row.opcode p
 
 pub group_narrow : (strict : Bool) (row : TableRow) (p : Prefixes) (m : ℕ) → immediates_width ((group_record strict row p).plan m) ≤ 8
-unfolding group_record
-group_narrow strict row p m = at_most_8 (may_have_gap row.form) (group_plan row p m strict) (group_passes row strict p m)
+unfolding group_record group_plan
+group_narrow strict row p m = at_most_8 (may_have_gap row.form) row strict p m (first strict row p m) (fits strict row p m)
 
 fault_of : (f : Form) (p : Prefixes) → group_fault f p ≢ Some Incomplete
 fault_of f p e = grind arith
@@ -69,9 +72,9 @@ no_fault strict row p = fault_of row.form p
 
 -- ---- what is left out
 
-waits : (gaps : Bool) (plan : Plan) → passes gaps plan ≡ true → plan.verdict ≡ Refuses Incomplete → gaps ≡ true
-waits true plan h e = refl
-waits false plan h e = absurd (without_gap plan h e)
+waits : (gaps : Bool) (row : TemplateRow) → row_fits gaps row ≡ true → row.verdict ≡ Refuses Incomplete → gaps ≡ true
+waits true row h e = refl
+waits false row h e = absurd (without_gap row h e)
 
 eight_f : (f : Form) → is_8f f ≡ true → f ≡ form.ModRM_0x8f
 eight_f form.ModRM_0x8f h = refl
@@ -79,9 +82,9 @@ eight_f _ h = absurd (true≢false (sym h))
 
 pub gap_form : (strict : Bool) (row : TableRow) (p : Prefixes) (m : ℕ) → is_group row.form ≡ true →
     ((group_record strict row p).plan m).verdict ≡ Refuses Incomplete → row.form ≡ form.ModRM_0x8f
-unfolding group_record
+unfolding group_record group_plan
 gap_form strict row p m group e =
-    let h : (not (is_group row.form) || is_8f row.form) ≡ true = waits (may_have_gap row.form) (group_plan row p m strict) (group_passes row strict p m) e in
+    let h : (not (is_group row.form) || is_8f row.form) ≡ true = waits (may_have_gap row.form) (first strict row p m) (fits strict row p m) e in
     eight_f row.form (rw group at h)
 
 abbrev is_reg_0 : ℕ → Bool

@@ -1,15 +1,12 @@
 -- How rows go on after their opcode byte, and where the rows of a group are in the table.
-use Rattle.std.proofs.Common.{◌≢◌, ◌∙◌, [], ◌≡◌, ◌-◌, nat_le, ℕ, Bool, true, false, None, length, take, drop, get_or, refl, arith}
+use Rattle.std.proofs.Common.{◌≡◌, ◌-◌, nat_le, ℕ, Bool, true, false, None, length, take, drop, get_or, refl, arith}
 use Rattle.std.specs.List.{list_all}
-use Rattle.x86_fields.specs.Run.{reading_of}
-use Rattle.x86_groups.specs.Vocabulary.{After, EitherForm, Form, Prefixes, TableRow, is_memory}
-use Rattle.x86_operands.specs.declared.plans.ModrmUse.TheVariants.{Absent}
+use Rattle.x86_groups.specs.Vocabulary.{After, EitherForm, Form, Prefixes, TableRow}
 use Rattle.x86_forms.specs.declared.Form.TheVariants as form
 use Rattle.x86_forms.specs.declared.words.WordRow.{WordRow}
-use Rattle.x86_forms.specs.Groups.{is_group}
 use Rattle.x86_forms.specs.Ordinals.{first_ordinal_of}
 use Rattle.x86_operands.specs.declared.templates.Template.{Template}
-use Rattle.x86_operands.specs.Forms.{Follows, IsPlainRow, form_record, is_searched, modrm_use}
+use Rattle.x86_operands.specs.Forms.{Follows, IsPlainRow, form_record, is_searched}
 use Rattle.x86_operands.specs.Plans.{template_plan}
 use Rattle.x86_operands.specs.Templates.{is_sound_row}
 use Rattle.x86_groups.specs.declared.tables.TheConstants.{ROWS, SPANS}
@@ -45,23 +42,7 @@ begins After.Fields strict row p h = rw h.0 (refl, h.1)
 begins After.Cells strict row p h = rw h.0 (no_fault_at row.form p h.1, either_at row.form h.1)
 begins After.Search strict row p h = tt
 
-pub plain_modrm : (strict : Bool) (row : TableRow) (p : Prefixes) → is_group row.form ≡ false → (record_of strict row p).modrm ≡ modrm_use row.form
-unfolding form_record
-plain_modrm strict row p h = rw h refl
-
 pub plain_is : (found : WordRow) (m : ℕ) (t : Template) → IsPlainRow found m t → (strict : Bool) (p : Prefixes) →
     template_plan t found.number found.row.opcode p m ≡ (record_of strict found.row p).plan m
 unfolding form_record
 plain_is found m t h strict p = rw h.plain (h.plan p)
-
-is_simple : (after : After) (f : Form) → after ≢ After.Search → after ≢ After.Cells → Follows after f → is_group f ≡ false
-is_simple After.Nothing f s c h = h.0
-is_simple After.Fields f s c h = h.0
-is_simple After.Cells f s c h = absurd (c refl)
-is_simple After.Search f s c h = absurd (s refl)
-
-pub plain_requires : (found : WordRow) (m : ℕ) (after : After) → after ≢ After.Search → after ≢ After.Cells → Follows after found.row.form →
-    ((strict : Bool) (p : Prefixes) → (record_of strict found.row p).modrm ≡ Absent → is_memory m ≡ false) →
-    modrm_use found.row.form ≡ Absent → is_memory m ≡ false
-plain_requires found m after s c follows given e =
-    given true (reading_of []) (plain_modrm true found.row (reading_of []) (is_simple after found.row.form s c follows) ∙ e)

@@ -5,6 +5,7 @@ use Rattle.x86_groups.specs.Vocabulary.{Prefixes, RegisterClass, TableRow}
 use Rattle.x86_fields.specs.declared.raw.Raw.{Raw}
 use Rattle.x86_forms.specs.Groups.{is_group}
 use Rattle.x86_forms.specs.Words.{carried}
+use Rattle.x86_operands.specs.declared.order.Order.{Order}
 use Rattle.x86_operands.specs.declared.plans.OperandEncoding.{OperandEncoding}
 use Rattle.x86_operands.specs.declared.plans.OperandEncoding.TheVariants as encoding
 use Rattle.x86_operands.specs.declared.rows.TemplateRow.{TemplateRow}
@@ -32,10 +33,6 @@ module _ (q : Prefixes) (m : ℕ) (memory : Option Raw) where
   unfolding shape
   settled_known s n p = grind arith
 
-  either : (b : Bool) (x y : OperandEncoding) → IsKnown x → IsKnown y → IsKnown (if b then x else y)
-  either true x y a b = a
-  either false x y a b = b
-
   reg_known : (t : Template) (n : ℕ) → IsKnown (reg_part t n)
   unfolding shape
   reg_known t n = grind arith
@@ -44,34 +41,28 @@ module _ (q : Prefixes) (m : ℕ) (memory : Option Raw) where
   unfolding shape
   rm_known w = grind arith
 
-  four_known : (a b c d : OperandEncoding) → IsKnown a → IsKnown b → IsKnown c → IsKnown d → All IsKnown (a ∷ b ∷ c ∷ d ∷ [])
-  four_known a b c d x y z w =
-      let two = All-cons IsKnown c (d ∷ []) z (All-cons IsKnown d [] w (All-nil IsKnown)) in
-      All-cons IsKnown a (b ∷ c ∷ d ∷ []) x (All-cons IsKnown b (c ∷ d ∷ []) y two)
+  picked : (x y z : Bool) (a b c d : OperandEncoding) → IsKnown a → IsKnown b → IsKnown c → IsKnown d →
+      IsKnown (if x then a else (if y then b else (if z then c else d)))
+  picked true y z a b c d reg rm last extra = reg
+  picked false true z a b c d reg rm last extra = rm
+  picked false false true a b c d reg rm last extra = last
+  picked false false false a b c d reg rm last extra = extra
 
-  module _ (t : Template) (n : ℕ) (p : Prefixes) where
-    abbrev last : OperandEncoding
-    last = settled t.last n p
-
-    abbrev extra : OperandEncoding
-    extra = settled t.extra n p
-
-    at_index : (k : ℕ) → IsKnown (encoding_at t.order k (reg_part t n) (rm_encoding t.rm) last extra)
-    at_index k =
-        let others = either (index_of_position t.order.last == k) last extra (settled_known t.last n p) (settled_known t.extra n p) in
-        let after = either (index_of_position t.order.rm == k) (rm_encoding t.rm) _ (rm_known t.rm) others in
-        either (index_of_position t.order.reg == k) (reg_part t n) _ (reg_known t n) after
-
-    abbrev at : ℕ → OperandEncoding
-    at k = encoding_at t.order k (reg_part t n) (rm_encoding t.rm) last extra
-
-    template_known : All IsKnown (encodings_in t.order (reg_part t n) (rm_encoding t.rm) last extra)
-    template_known =
-        All-take IsKnown t.order.count (letters_in t.order (reg_part t n) (rm_encoding t.rm) last extra)
-        (four_known (at 0) (at 1) (at 2) (at 3) (at_index 0) (at_index 1) (at_index 2) (at_index 3))
+  all_known : (o : Order) (a b c d : OperandEncoding) → IsKnown a → IsKnown b → IsKnown c → IsKnown d → All IsKnown (encodings_in o a b c d)
+  all_known o a b c d reg rm last extra =
+      let e : ℕ → OperandEncoding = λ k. encoding_at o k a b c d in
+      let at : (k : ℕ) → IsKnown (e k) =
+      λ k. picked (index_of_position o.reg == k) (index_of_position o.rm == k) (index_of_position o.last == k) a b c d reg rm last extra in
+      let two = All-cons IsKnown (e 2) (e 3 ∷ []) (at 2) (All-cons IsKnown (e 3) [] (at 3) (All-nil IsKnown)) in
+      All-take IsKnown o.count (letters_in o a b c d)
+      (All-cons IsKnown (e 0) (e 1 ∷ e 2 ∷ e 3 ∷ []) (at 0) (All-cons IsKnown (e 1) (e 2 ∷ e 3 ∷ []) (at 1) two))
 
   row_known : (chosen : TemplateRow) (row : TableRow) (p : Prefixes) (n : ℕ) → All IsKnown (plan_encodings (plan_of_row chosen row p n))
-  row_known chosen row p n = template_known chosen.template (carried row.form) p
+  row_known chosen row p n =
+      let t = chosen.template in
+      let k = carried row.form in
+      all_known t.order (reg_part t k) (rm_encoding t.rm) (settled t.last k p) (settled t.extra k p)
+      (reg_known t k) (rm_known t.rm) (settled_known t.last k p) (settled_known t.extra k p)
 
   by_group : (b strict : Bool) (row : TableRow) (p : Prefixes) (n : ℕ) →
       All IsKnown (plan_encodings ((if b then group_record strict row p else form_record row p).plan n))

@@ -4,13 +4,11 @@
 ghost use Rattle.std.specs.Prelude.{◌≡◌, ◌≤◌, ◌-◌, Bool, true, false, IfSome, length, take, drop};
 ghost use Rattle.std.specs.List.{list_all};
 ghost use Rattle.x86_fields.specs.declared.prefixes.Prefixes.{Prefixes};
-ghost use Rattle.x86_fields.specs.ModRM.{is_memory};
 ghost use Rattle.x86_forms.specs.Groups.{is_group};
 ghost use Rattle.x86_forms.specs.Words.{IsForm};
 ghost use Rattle.x86_operands.specs.Asks.{ask_of, record_at};
 ghost use Rattle.x86_operands.specs.Columns.{is_placed, plan_of_row};
 ghost use Rattle.x86_operands.specs.Templates.{is_sound_row};
-ghost use Rattle.x86_operands.specs.declared.plans.ModrmUse.TheVariants.{Absent};
 ghost use Rattle.x86_groups.specs.Groups.{group_record, record_of};
 ghost use Rattle.x86_groups.specs.Heads.{Continues, IsSure};
 ghost use Rattle.x86_groups.specs.Rows.{group_rows};
@@ -44,10 +42,8 @@ pub fn word_after(found: &WordRow) -> After
 /// The operation and the operands of a word's row at a ModRM byte, where they are read at once, and the form, mod and reg
 /// alone choose the row.
 #[inline(always)]
-#[tactic(auto, using(crate::proofs::HeadLemmas::plain_is, crate::proofs::HeadLemmas::plain_modrm))]
+#[tactic(auto, using(crate::proofs::HeadLemmas::plain_is))]
 pub fn sure_row(found: &WordRow, modrm: ModRM) -> Option<SureRow<'static>>
-    requires { (strict : Bool) (p : Prefixes) →
-        (record_of strict found.now.row p).modrm ≡ Absent → is_memory modrm ≡ false }
     ensures { IfSome result (IsSure found.now modrm) }
 {
     match x86_operands::word_after(found) {

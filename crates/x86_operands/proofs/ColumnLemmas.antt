@@ -1,21 +1,21 @@
--- What the columns of the first row have: that its plan passes the tests of plans, and what it goes by in the memory form.
+-- What the columns of the first row have: a small size and few immediates, and what it goes by in the memory form.
 use Rattle.std.proofs.Common.{◌&&◌, ◌≡◌, inl, inr, ◌≤◌, ℕ, ◌+◌, nat_lt, Bool, true, false, not, ◌||◌, List, [], ◌∷◌, refl, sym, ap, ◌∙◌}
 use Rattle.std.proofs.Common.{arith, true≢false, ◌≢◌, if◌then◌else◌, rules}
 use Rattle.std.specs.List.{list_all, list_any}
-use Rattle.std.proofs.lemmas.Bool.{and_parts, or_cases, and_left}
+use Rattle.std.proofs.lemmas.Bool.{and_parts, or_cases, and_left, ltb-true}
 use Rattle.std.proofs.lemmas.Bool.Decides.{nat_tests}
 use Rattle.x86_operands.specs.Vocabulary.{Prefixes, Size, OperandEncoding, Position, Nowhere, TableRow, Template, BadOpcode, reg_field, is_memory}
-use Rattle.x86_operands.specs.Vocabulary.{RegisterClass, Fault, Incomplete, Verdict, Refuses, width_of, has_r, has_w, repnz, rep}
-use Rattle.x86_operands.specs.RowVocabulary.{Names, Place, Register, Reg, When, Rm, ByRm, TemplateRow}
+use Rattle.x86_operands.specs.Vocabulary.{RegisterClass, Incomplete, Verdict, Refuses, width_of, has_r, has_w, repnz, rep}
+use Rattle.x86_operands.specs.RowVocabulary.{Names, Place, Reg, When, Rm, ByRm, TemplateRow}
 use Rattle.x86_operands.specs.Words.{AtModRM, otherwise}
 use Rattle.x86_forms.specs.Words.{carried}
-use Rattle.x86_operands.specs.Plans.{Plan, is_refusal}
+use Rattle.x86_operands.specs.Plans.{is_refusal}
 use Rattle.x86_operands.specs.Pieces.{is_modrm_encoding}
 use Rattle.x86_operands.specs.declared.sizing.Size.TheVariants as size
 use Rattle.x86_operands.specs.declared.plans.OperandEncoding.TheVariants as encoding
 use Rattle.x86_operands.specs.Asks.{immediate_width, immediates_width, part_width}
 use Rattle.x86_operands.specs.Encodings.{settled, size_bytes}
-use Rattle.x86_operands.specs.Templates.{is_sound, size_at}
+use Rattle.x86_operands.specs.Templates.{is_register_place, is_sound, size_at}
 use Rattle.x86_operands.specs.Columns.{choose, opcode_of, plan_of_row, is_there, is_placed, is_reg, is_rm, is_prefixed, is_named}
 use Rattle.x86_operands.specs.declared.rows.Rm.TheVariants as rms
 use Rattle.x86_operands.specs.declared.rows.When.TheVariants as when
@@ -63,11 +63,7 @@ no_b w = true
 prefixed_alike : (w : When) (own : TableRow) (p q : Prefixes) → SamePrefixes p q → no_b w ≡ true → is_prefixed w own p ≡ is_prefixed w own q
 prefixed_alike w own p q h free = grind arith
 
-abbrev pub is_register : Place → Bool
-is_register Register = true
-is_register place = false
-
-pub row_absent : (row : TemplateRow) (own : TableRow) (strict : Bool) (p : Prefixes) (m : ℕ) → is_register row.at.place ≡ true →
+pub row_absent : (row : TemplateRow) (own : TableRow) (strict : Bool) (p : Prefixes) (m : ℕ) → is_register_place row.at.place ≡ true →
     is_memory m ≡ true → is_there row own strict p m ≡ false
 row_absent row own strict p m h e = and_left (is_placed row.at.place m) _ (grind arith)
 
@@ -82,7 +78,7 @@ no_rm_names names = true
 
 -- a row of the register form, or one that is chosen by neither rm nor B
 abbrev pub rm_free : TemplateRow → Bool
-rm_free row = is_register row.at.place || (no_b row.when && (no_rm row.at.rm && no_rm_names row.names))
+rm_free row = is_register_place row.at.place || (no_b row.when && (no_rm row.at.rm && no_rm_names row.names))
 
 module _ (p q : Prefixes) (m n : ℕ) (h : SamePrefixes p q) (mm : is_memory m ≡ true) (nm : is_memory n ≡ true) (same : reg_field m ≡ reg_field n) where
   rm_alike : (r : Rm) (strict : Bool) → no_rm r ≡ true → is_rm r strict m ≡ is_rm r strict n
@@ -98,7 +94,7 @@ module _ (p q : Prefixes) (m n : ℕ) (h : SamePrefixes p q) (mm : is_memory m �
   placed_alike place = grind arith
 
   pub there_alike : (own : TableRow) (strict : Bool) (row : TemplateRow) → rm_free row ≡ true → is_there row own strict p m ≡ is_there row own strict q n
-  there_alike own strict row free = elim (or_cases (is_register row.at.place) (no_b row.when && (no_rm row.at.rm && no_rm_names row.names)) free) [
+  there_alike own strict row free = elim (or_cases (is_register_place row.at.place) (no_b row.when && (no_rm row.at.rm && no_rm_names row.names)) free) [
     | inl is ↦ row_absent row own strict p m is mm ∙ sym (row_absent row own strict q n is nm)
     | inr rest ↦
         let parts = and_parts (no_b row.when) _ rest in
@@ -112,45 +108,12 @@ module _ (p q : Prefixes) (m n : ℕ) (h : SamePrefixes p q) (mm : is_memory m �
         ) refl
   ]
 
--- ---- tests of plans, that hold of a choice where they hold of both sides
+-- ---- sizes, immediates and gaps
 
 -- a refusal for a form that isn't built
-abbrev pub is_gap : Fault → Bool
-is_gap Incomplete = true
-is_gap fault = false
-
 abbrev pub has_gap : Verdict → Bool
-has_gap (Refuses fault) = is_gap fault
+has_gap (Refuses Incomplete) = true
 has_gap verdict = false
-
--- the immediates have at most 8 bytes together
-unfoldable pub narrow : Plan → Bool
-narrow plan = nat_lt (immediates_width plan) 9
-
--- A plan has no gap, unless gaps are passed, its size is at most 64, and its immediates have at most 8 bytes.
-unfoldable pub passes : Bool → Plan → Bool
-passes gaps plan = ((gaps || not (has_gap plan.verdict)) && nat_lt plan.size 65) && narrow plan
-
-pub small_width : (c : RegisterClass) → nat_lt (width_of c) 65 ≡ true
-small_width c = search rules
-
--- the three tests that a plan passes
-module _ (gaps : Bool) (plan : Plan) (h : passes gaps plan ≡ true) where
-  pub at_most_64 : plan.size ≤ 64
-  unfolding passes
-  at_most_64 = grind (arith, nat_tests)
-
-  pub at_most_8 : immediates_width plan ≤ 8
-  unfolding passes narrow
-  at_most_8 = grind (arith, nat_tests)
-
-pub without_gap : (plan : Plan) → passes false plan ≡ true → plan.verdict ≢ Refuses Incomplete
-unfolding passes
-without_gap plan h e =
-    let gap : has_gap plan.verdict ≡ true = ap has_gap e in
-    grind arith
-
--- ---- sizes, immediates and gaps
 
 -- how many bytes of immediate an operand of a row has at most in a plan
 abbrev pub most : OperandEncoding → ℕ
@@ -175,35 +138,33 @@ part_most : (at : Position) (s : OperandEncoding) (n : ℕ) (p : Prefixes) → p
 part_most Nowhere s n p = omega arith
 part_most at s n p = settled_most s n p
 
-narrow_by : (k a b c d : ℕ) → k ≡ a + b → a ≤ c → b ≤ d → nat_lt (c + d) 9 ≡ true → nat_lt k 9 ≡ true
+narrow_by : (k a b c d : ℕ) → k ≡ a + b → a ≤ c → b ≤ d → nat_lt (c + d) 9 ≡ true → k ≤ 8
 narrow_by k a b c d e last extra h = grind (arith, nat_tests)
 
-row_narrow : (row : TemplateRow) (own : TableRow) (p : Prefixes) (m : ℕ) → is_sound row.template ≡ true → few row.template ≡ true →
-    narrow (plan_of_row row own p m) ≡ true
-unfolding narrow
-row_narrow row own p m sound h =
-    let t = row.template in
-    let n = carried own.form in
-    narrow_by (immediates_width (plan_of_row row own p m)) (part_width t.order.last (settled t.last n p)) (part_width t.order.extra (settled t.extra n p))
-    (most t.last) (most t.extra) (row_width row own p m sound) (part_most t.order.last t.last n p) (part_most t.order.extra t.extra n p) h
+small_width : (c : RegisterClass) → nat_lt (width_of c) 65 ≡ true
+small_width c = search rules
 
 size_small : (s : Size) (o : ℕ) (p : Prefixes) → nat_lt (size_bytes s o p) 65 ≡ true
 size_small size.FarPointer o p = grind arith
 size_small s o p = grind (arith, small_width)
 
-row_passes : (gaps : Bool) (row : TemplateRow) (own : TableRow) (p : Prefixes) (m : ℕ) → row_fits gaps row ≡ true → passes gaps (plan_of_row row own p m) ≡ true
-unfolding passes
-row_passes gaps row own p m h =
-    let parts = and_parts (gaps || not (has_gap row.verdict)) _ h in
-    let rest = and_parts (is_sound row.template) (few row.template) parts.1 in
-    rw (parts.0, size_small (size_at row.template m) own.opcode p, row_narrow row own p m rest.0 rest.1) refl
+pub at_most_64 : (s : Size) (o : ℕ) (p : Prefixes) → size_bytes s o p ≤ 64
+at_most_64 s o p = let below = ltb-true (size_bytes s o p) 65 (size_small s o p) in omega (arith, below)
 
--- the plan of the first of rows that fit
-pub rows_pass : (gaps : Bool) (rows : List TemplateRow) (own : TableRow) (strict : Bool) (p : Prefixes) (m : ℕ) →
-    list_all (row_fits gaps) rows ≡ true → passes gaps (plan_of_row (choose rows own strict p m) own p m) ≡ true
-rows_pass gaps rows own strict p m h =
-    row_passes gaps (choose rows own strict p m) own p m
-    (chosen_has (λ row. row_fits gaps row ≡ true) (row_fits gaps) own strict p m (grind arith) (λ row e held. e) rows h)
+module _ (gaps : Bool) (own : TableRow) (strict : Bool) (p : Prefixes) (m : ℕ) where
+  pub chosen_fits : (rows : List TemplateRow) → list_all (row_fits gaps) rows ≡ true → row_fits gaps (choose rows own strict p m) ≡ true
+  chosen_fits = chosen_has (λ row. row_fits gaps row ≡ true) (row_fits gaps) own strict p m (grind arith) (λ row e held. e)
+
+  pub at_most_8 : (row : TemplateRow) → row_fits gaps row ≡ true → immediates_width (plan_of_row row own p m) ≤ 8
+  at_most_8 row h =
+      let t = row.template in
+      let n = carried own.form in
+      let parts = and_parts (is_sound t) (few t) (and_parts (gaps || not (has_gap row.verdict)) _ h).1 in
+      narrow_by (immediates_width (plan_of_row row own p m)) (part_width t.order.last (settled t.last n p)) (part_width t.order.extra (settled t.extra n p))
+      (most t.last) (most t.extra) (row_width row own p m parts.0) (part_most t.order.last t.last n p) (part_most t.order.extra t.extra n p) parts.1
+
+pub without_gap : (row : TemplateRow) → row_fits false row ≡ true → row.verdict ≢ Refuses Incomplete
+without_gap row h e = absurd (true≢false (sym (and_parts (not (has_gap row.verdict)) _ h).0 ∙ ap (λ v. not (has_gap v)) e))
 
 -- ---- two ModRM bytes of the memory form that have the same reg, under prefixes that differ in X and B alone
 
@@ -220,7 +181,7 @@ in_memory row = no_rm_names row.names && (list_all rm_free_encoding (row_encodin
     && (is_refusal row.verdict || list_any is_modrm_encoding (row_encodings row)))
 
 abbrev pub row_in_memory : TemplateRow → Bool
-row_in_memory row = is_register row.at.place || in_memory row
+row_in_memory row = is_register_place row.at.place || in_memory row
 
 -- what holds of rows with ModRM
 abbrev pub keeps_reg : TemplateRow → Bool
@@ -253,7 +214,7 @@ pub first_in_memory : (rows : List TemplateRow) (own : TableRow) (strict : Bool)
     is_memory m ≡ true → in_memory (choose rows own strict p m) ≡ true
 first_in_memory rows own strict p m h mem =
     chosen_has (λ row. in_memory row ≡ true) keeps_reg own strict p m refl
-    (λ row test held. elim (or_cases (is_register row.at.place) (in_memory row) (and_parts (rm_free row) _ test).1) [
+    (λ row test held. elim (or_cases (is_register_place row.at.place) (in_memory row) (and_parts (rm_free row) _ test).1) [
       | inl is ↦ absurd (true≢false (sym held ∙ row_absent row own strict p m is mem))
       | inr e ↦ e
     ]) rows h

@@ -7,7 +7,7 @@ use Rattle.std.proofs.lemmas.Bool.{and_parts, ltb-true}
 use Rattle.std.proofs.lemmas.List.Elements.{All-get_or}
 use Rattle.std.proofs.lemmas.List.Sums.{AllPass-from_list_all}
 use Rattle.x86_operands.specs.Vocabulary.{After, BadOpcode, EitherForm, Absent, Form, Head, ModrmUse, Prefixes, TableRow, is_memory, reg_field}
-use Rattle.x86_operands.specs.RowVocabulary.{Names, Own, Place, Reg, TemplateRow}
+use Rattle.x86_operands.specs.RowVocabulary.{Names, Own, Reg, TemplateRow}
 use Rattle.x86_forms.specs.declared.Form.TheVariants as form
 use Rattle.x86_forms.specs.declared.words.WordRow.{WordRow}
 use Rattle.x86_forms.specs.Groups.{is_group}
@@ -23,7 +23,7 @@ use Rattle.x86_operands.specs.Rows.{form_rows}
 use Rattle.x86_operands.specs.Plans.{template_plan}
 use Rattle.x86_operands.specs.Templates.{is_read_at, is_sound_row}
 use Rattle.x86_operands.specs.Words.{AtModRM, otherwise}
-use Rattle.x86_operands.proofs.SureLemmas.{at_names, at_place, at_reg, first_chosen, first_of, is_read, is_sure, may_be, plan_is, present}
+use Rattle.x86_operands.proofs.SureLemmas.{at_names, at_reg, first_chosen, first_of, is_read, is_sure, may_be, place_same, plan_is, present}
 
 -- ---- where the rows of a form are in the table
 
@@ -130,33 +130,17 @@ HasHead f = (1 + ordinal_of f < length HEADS.now) × ((z : Head) → get_or HEAD
 first_heads : 40 < length HEADS.now
 first_heads = ltb-true 40 (length HEADS.now) refl
 
+-- the eight numbers of a form from here on have the head of the first
+abbrev IsHeadOf : ℕ → Head → ℕ → Type 0
+IsHeadOf first z n = get_or HEADS.now (1 + (first + n)) z ≡ get_or HEADS.now (1 + first) z
+
 has_head : (f : Form) → IsForm f → HasHead f
 unfolding ordinal_of
-has_head (form.Zv_R n) below = (
-  omega (arith, first_heads, below),
-  λ z.
-      up_to_seven (λ n. get_or HEADS.now (1 + (0 + n)) z ≡ get_or HEADS.now (1 + 0) z) refl refl refl refl refl refl refl refl n below,
-)
-has_head (form.Zv_AX_R n) below = (
-  omega (arith, first_heads, below),
-  λ z.
-      up_to_seven (λ n. get_or HEADS.now (1 + (8 + n)) z ≡ get_or HEADS.now (1 + 8) z) refl refl refl refl refl refl refl refl n below,
-)
-has_head (form.Zb_Ib_R n) below = (
-  omega (arith, first_heads, below),
-  λ z.
-      up_to_seven (λ n. get_or HEADS.now (1 + (16 + n)) z ≡ get_or HEADS.now (1 + 16) z) refl refl refl refl refl refl refl refl n below,
-)
-has_head (form.Zv_Ivq_R n) below = (
-  omega (arith, first_heads, below),
-  λ z.
-      up_to_seven (λ n. get_or HEADS.now (1 + (24 + n)) z ≡ get_or HEADS.now (1 + 24) z) refl refl refl refl refl refl refl refl n below,
-)
-has_head (form.Zv_B n) below = (
-  omega (arith, first_heads, below),
-  λ z.
-      up_to_seven (λ n. get_or HEADS.now (1 + (32 + n)) z ≡ get_or HEADS.now (1 + 32) z) refl refl refl refl refl refl refl refl n below,
-)
+has_head (form.Zv_R n) below = (omega (arith, first_heads, below), λ z. up_to_seven (IsHeadOf 0 z) refl refl refl refl refl refl refl refl n below)
+has_head (form.Zv_AX_R n) below = (omega (arith, first_heads, below), λ z. up_to_seven (IsHeadOf 8 z) refl refl refl refl refl refl refl refl n below)
+has_head (form.Zb_Ib_R n) below = (omega (arith, first_heads, below), λ z. up_to_seven (IsHeadOf 16 z) refl refl refl refl refl refl refl refl n below)
+has_head (form.Zv_Ivq_R n) below = (omega (arith, first_heads, below), λ z. up_to_seven (IsHeadOf 24 z) refl refl refl refl refl refl refl refl n below)
+has_head (form.Zv_B n) below = (omega (arith, first_heads, below), λ z. up_to_seven (IsHeadOf 32 z) refl refl refl refl refl refl refl refl n below)
 has_head _ below = (ltb-true _ _ refl, λ z. refl)
 
 pub number_below : (f : Form) (n : ℕ) → IsForm f → n ≡ 1 + ordinal_of f → n < length HEADS.now
@@ -196,20 +180,8 @@ own_named names m h = (grind arith, grind arith)
 any_at : (r : Reg) (k : ℕ) → any_reg r ≡ true → at_reg r k ≡ true
 any_at r k h = grind arith
 
-place_at : (place : Place) (m : ℕ) → is_placed place m ≡ true → at_place place (is_memory m) ≡ true
-place_at place m h = grind arith
-
-bare_use : (rows : List TemplateRow) (row : TemplateRow) → first_of rows ≡ row → row.at.place ≡ Place.Bare → rows_use rows ≡ Absent
-bare_use [] row e h = refl
-bare_use (first ∷ rest) row e h = rw (e, h) refl
-
 module _ (found : WordRow) (m : ℕ) (row : TemplateRow) (first : row ≡ first_of (form_rows found.row.form))
-    (head : is_head_row row (carries found.row.form) ≡ true) (placed : is_placed row.at.place m ≡ true)
-    (bare : modrm_use found.row.form ≡ Absent → is_memory m ≡ false) where
-  no_memory : row.at.place ≡ Place.Bare → is_memory m ≡ false
-  unfolding modrm_use
-  no_memory e = bare (bare_use (form_rows found.row.form) row (sym first) e)
-
+    (head : is_head_row row (carries found.row.form) ≡ true) (placed : is_placed row.at.place m ≡ true) where
   numbered : (carrying of_opcode : Bool) → carries found.row.form ≡ carrying → (carrying || not of_opcode) ≡ true → of_opcode ≡ true →
       found.number ≡ carried found.row.form
   numbered true of_opcode is h e = found.number_is (subst (λ n. n < 41) (sym found.form_number_is) (first_numbers found.row.form found.fits is))
@@ -223,7 +195,8 @@ module _ (found : WordRow) (m : ℕ) (row : TemplateRow) (first : row ≡ first_
       let sure = and_parts (is_sure row) (is_own row.names) parts.0 in
       let rest = and_parts (any_reg row.at.reg) _ parts.1 in
       let names = own_named row.names m sure.1 in
-      let may : may_be row (is_memory m) (reg_field m) ≡ true = rw (place_at row.at.place m placed, any_at row.at.reg (reg_field m) rest.0, names.0) refl in
+      let may : may_be row (is_memory m) (reg_field m) ≡ true =
+      rw (sym (place_same m row.at.place) ∙ placed, any_at row.at.reg (reg_field m) rest.0, names.0) refl in
       let there = present found.row false p m row may sure.0 names.1 in
       let opcode = own_opcode row.names found.row m sure.1 in
       plan_is row found.row found.number found.row.opcode p m sure.0 opcode (numbered (carries found.row.form) row.template.of_opcode refl rest.1) refl
@@ -231,14 +204,14 @@ module _ (found : WordRow) (m : ℕ) (row : TemplateRow) (first : row ≡ first_
       (first ∙ sym (first_chosen (form_rows found.row.form) found.row false p m (subst (λ r. is_there r found.row false p m ≡ true) first there)))
 
   pub plain_read : is_read_at row.template m ≡ true
-  plain_read = is_read row m (and_parts (is_sure row) (is_own row.names) (and_parts (is_sure row && is_own row.names) _ head).0).0 placed no_memory
+  plain_read = is_read row m (and_parts (is_sure row) (is_own row.names) (and_parts (is_sure row && is_own row.names) _ head).0).0 placed
 
-direct_if : (after : Bool) (x y z : TemplateRow) → (if after then x else z) ≡ (if after then y else z) → after ≡ true → x ≡ y
-direct_if true x y z h e = h
-direct_if false x y z h e = absurd cc
+pub if_true : {X : Type 0} (test : Bool) (x y z : X) → (if test then x else z) ≡ (if test then y else z) → test ≡ true → x ≡ y
+if_true true x y z h e = h
+if_true false x y z h e = absurd cc
 
-direct_or : (after b : Bool) → (not after || b) ≡ true → after ≡ true → b ≡ true
-direct_or after b h e = grind arith
+pub or_true : (a b : Bool) → (not a || b) ≡ true → a ≡ true → b ≡ true
+or_true a b h e = grind arith
 
 follows_group : (f : Form) (after : After) → Follows after f → is_direct after ≡ true → is_group f ≡ false
 follows_group f follow.Nothing h e = h.0
@@ -248,19 +221,19 @@ follows_group f after h e = absurd cc
 -- the row that a head names is read at once
 pub plain_at : (found : WordRow) (m : ℕ) (z : Head) (d : TemplateRow) → is_direct (get_or HEADS.now found.form_number z).after ≡ true →
     is_placed (row_of (get_or HEADS.now found.form_number z) d).at.place m ≡ true →
-    (modrm_use found.row.form ≡ Absent → is_memory m ≡ false) → IsPlainRow found m (row_of (get_or HEADS.now found.form_number z) d).template
-plain_at found m z d direct placed bare =
+    IsPlainRow found m (row_of (get_or HEADS.now found.form_number z) d).template
+plain_at found m z d direct placed =
     let f = found.row.form in
     let same = head_at f found.form_number z found.fits found.form_number_is in
     let is : is_direct (head_of f z).after ≡ true = rw same at direct in
     let row : TemplateRow = row_of (head_of f z) d in
     let first : row ≡ first_of (form_rows f) =
-    direct_if (is_direct (head_of f z).after) row (first_of (form_rows f)) blank (heads_are f z d) is in
-    let head : is_head_row row (carries f) ≡ true = direct_or (is_direct (head_of f z).after) (is_head_row row (carries f)) (heads_are_sure f z d) is in
+    if_true (is_direct (head_of f z).after) row (first_of (form_rows f)) blank (heads_are f z d) is in
+    let head : is_head_row row (carries f) ≡ true = or_true (is_direct (head_of f z).after) (is_head_row row (carries f)) (heads_are_sure f z d) is in
     let here : is_placed row.at.place m ≡ true = rw same at placed in
     subst (λ head. IsPlainRow found m (row_of head d).template) (sym same)
     (record {
       plain = follows_group f (head_of f z).after (follows_by f (head_of f z).after (heads_follow f z)) is;
-      fits = plain_read found m row first head here bare;
-      plan = plain_plan found m row first head here bare;
+      fits = plain_read found m row first head here;
+      plan = plain_plan found m row first head here;
     })

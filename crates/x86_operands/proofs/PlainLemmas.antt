@@ -1,5 +1,5 @@
 -- What holds of the plans of all plain forms.
-use Rattle.std.proofs.Common.{◌≡◌, ◌≢◌, ◌≤◌, inl, inr, ℕ, Err, true, false, refl, sym, ap, ◌∙◌}
+use Rattle.std.proofs.Common.{◌≡◌, ◌≢◌, ◌≤◌, inl, inr, ℕ, Err, true, false, refl, subst}
 use Rattle.std.specs.List.{list_all}
 use Rattle.x86_arch.specs.Reader.{State}
 use Rattle.x86_fields.specs.declared.errors.DecodeError.TheVariants.{IncompleteDecoder}
@@ -7,11 +7,14 @@ use Rattle.x86_operands.specs.Vocabulary.{Prefixes, Form, Incomplete, Refuses, T
 use Rattle.x86_forms.specs.declared.Form.TheVariants as form
 use Rattle.x86_forms.specs.Groups.{is_group}
 use Rattle.x86_operands.specs.PlanSteps.{record_step}
+use Rattle.x86_operands.specs.RowVocabulary.{TemplateRow}
+use Rattle.x86_operands.specs.Columns.{choose}
 use Rattle.x86_operands.specs.Asks.{immediates_width}
+use Rattle.x86_operands.specs.Templates.{size_at}
 use Rattle.x86_operands.specs.Forms.{form_plan, form_record, modrm_use}
 use Rattle.x86_operands.specs.Rows.{form_rows}
-use Rattle.x86_operands.proofs.RowLemmas.{HasGap, row_left_out}
-use Rattle.x86_operands.proofs.ColumnLemmas.{passes, without_gap, at_most_64, at_most_8, keeps_reg, row_fits, rows_pass}
+use Rattle.x86_operands.proofs.RecordLemmas.{HasGap, row_left_out}
+use Rattle.x86_operands.proofs.ColumnLemmas.{without_gap, at_most_64, at_most_8, chosen_fits, keeps_reg, row_fits}
 
 rows_fit : (f : Form) → list_all (row_fits (is_group f)) (form_rows f) ≡ true
 unfolding form_rows
@@ -24,22 +27,24 @@ unfolding form_rows modrm_use
 rows_keep_reg (form.Zv_R n) e = cc
 rows_keep_reg f e = cc
 
-plain_passes : (row : TableRow) (p : Prefixes) (m : ℕ) → passes (is_group row.form) (form_plan row p m) ≡ true
-unfolding form_plan
-plain_passes row p m = rows_pass (is_group row.form) (form_rows row.form) row false p m (rows_fit row.form)
+module _ (row : TableRow) (p : Prefixes) (m : ℕ) where
+  abbrev first : TemplateRow
+  first = choose (form_rows row.form) row false p m
 
-pub plain_built : (row : TableRow) (p : Prefixes) (m : ℕ) → is_group row.form ≡ false → ((form_record row p).plan m).verdict ≢ Refuses Incomplete
-unfolding form_record
-plain_built row p m plain e =
-    without_gap (form_plan row p m) (ap (λ g. passes g (form_plan row p m)) (sym plain) ∙ plain_passes row p m) e
+  fits : row_fits (is_group row.form) first ≡ true
+  fits = chosen_fits (is_group row.form) row false p m (form_rows row.form) (rows_fit row.form)
 
-pub plain_small : (row : TableRow) (p : Prefixes) (m : ℕ) → ((form_record row p).plan m).size ≤ 64
-unfolding form_record
-plain_small row p m = at_most_64 (is_group row.form) (form_plan row p m) (plain_passes row p m)
+  pub plain_built : is_group row.form ≡ false → ((form_record row p).plan m).verdict ≢ Refuses Incomplete
+  unfolding form_record form_plan
+  plain_built plain = without_gap first (subst (λ g. row_fits g first ≡ true) plain fits)
 
-pub plain_narrow : (row : TableRow) (p : Prefixes) (m : ℕ) → immediates_width ((form_record row p).plan m) ≤ 8
-unfolding form_record
-plain_narrow row p m = at_most_8 (is_group row.form) (form_plan row p m) (plain_passes row p m)
+  pub plain_small : ((form_record row p).plan m).size ≤ 64
+  unfolding form_record form_plan
+  plain_small = at_most_64 (size_at first.template m) row.opcode p
+
+  pub plain_narrow : immediates_width ((form_record row p).plan m) ≤ 8
+  unfolding form_record form_plan
+  plain_narrow = at_most_8 (is_group row.form) row false p m first fits
 
 -- a row of a plain form is never left out
 pub plain_read : (row : TableRow) (p : Prefixes) (s : State ℕ) → is_group row.form ≡ false →

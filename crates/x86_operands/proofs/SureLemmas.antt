@@ -1,8 +1,8 @@
 -- A row that is read at once wherever its form, mod and reg are: where it may be, it is the first that is there.
-use Rattle.std.proofs.Common.{◌≡◌, ℕ, zero, suc, nat_le, ◌==◌, Bool, true, false, not, ◌&&◌, ◌||◌, if◌then◌else◌, List, [], ◌∷◌}
-use Rattle.std.proofs.Common.{slice_index_or, refl, arith}
+use Rattle.std.proofs.Common.{◌≡◌, ℕ, zero, suc, nat_le, ◌==◌, Bool, true, false, not, ◌&&◌, if◌then◌else◌, List, [], ◌∷◌}
+use Rattle.std.proofs.Common.{slice_index_or, refl, ◌∙◌, arith}
 use Rattle.std.proofs.lemmas.Bool.{and_parts}
-use Rattle.x86_operands.specs.Vocabulary.{Prefixes, TableRow, Template, Size, OperandEncoding, Width, Verdict, Accepts, PrefixChange, Keeps}
+use Rattle.x86_operands.specs.Vocabulary.{Prefixes, TableRow, Template, Size, Width, Verdict, Accepts, PrefixChange, Keeps}
 use Rattle.x86_operands.specs.Vocabulary.{BadOpcode, reg_field, is_memory}
 use Rattle.x86_operands.specs.RowVocabulary.{TemplateRow, Rm, Names, ByReg, Place, Memory, Register, Reg, When}
 use Rattle.x86_operands.specs.declared.rows.Reg.TheVariants as regs
@@ -12,10 +12,11 @@ use Rattle.x86_operands.specs.declared.sizing.Size.TheVariants as size
 use Rattle.x86_operands.specs.Words.{AtModRM, otherwise}
 use Rattle.x86_operands.specs.Columns.{choose, is_there, is_placed, is_reg, is_rm, is_prefixed, is_named, name_at, opcode_of, plan_of_row}
 use Rattle.x86_forms.specs.Words.{carried}
-use Rattle.x86_operands.specs.Encodings.{settled, size_bytes}
+use Rattle.x86_operands.specs.Encodings.{size_bytes}
 use Rattle.x86_operands.specs.Plans.{template_plan}
-use Rattle.x86_operands.specs.Templates.{fixed_encoding, is_last, is_simple, is_read_at, is_register_place, is_sound, is_sound_row, is_stack}
+use Rattle.x86_operands.specs.Templates.{fixed_encoding, is_last, is_simple, is_read_at, is_sound, is_sound_row}
 use Rattle.x86_operands.specs.Templates.{reg_encoding, size_at, somewhere}
+use Rattle.x86_operands.proofs.TemplateLemmas.{fits_placed, last_by}
 
 -- ---- where a row may be, by mod and reg
 
@@ -58,33 +59,23 @@ keeps c = false
 abbrev is_first : TemplateRow → Bool
 is_first row = is_always row.when && any_rm row.at.rm
 
--- where there is no operand of rm, there is no memory form
-abbrev is_bare : Place → Bool
-is_bare Memory = false
-is_bare Place.Either = false
-is_bare place = true
-
 abbrev is_at_once : TemplateRow → Bool
 is_at_once row =
     (accepts row.verdict && keeps row.change)
-    && ((is_simple row.template && is_last row.template.extra)
-    && (is_sound_row row && (somewhere row.template.order.rm || is_bare row.at.place)))
+    && ((is_simple row.template && is_last row.template.extra) && is_sound_row row)
 
 abbrev pub is_sure : TemplateRow → Bool
 is_sure row = is_first row && is_at_once row
 
-placed_at : (place : Place) (m : ℕ) → at_place place (is_memory m) ≡ true → is_placed place m ≡ true
-placed_at place m h = grind arith
+pub place_same : (m : ℕ) (place : Place) → is_placed place m ≡ at_place place (is_memory m)
+place_same m place = grind arith
 
 pub placed_by : (row : TemplateRow) (m : ℕ) → may_be row (is_memory m) (reg_field m) ≡ true → is_placed row.at.place m ≡ true
-placed_by row m h = placed_at row.at.place m (and_parts (at_place row.at.place (is_memory m)) _ h).0
+placed_by row m h = place_same m row.at.place ∙ (and_parts (at_place row.at.place (is_memory m)) _ h).0
 
 -- ---- a sure row is chosen, if it has a name
 
 module _ (own : TableRow) (strict : Bool) (p : Prefixes) (m : ℕ) where
-  place_same : (place : Place) → is_placed place m ≡ at_place place (is_memory m)
-  place_same place = grind arith
-
   reg_same : (r : Reg) → is_reg r m ≡ at_reg r (reg_field m)
   reg_same r = grind arith
 
@@ -98,15 +89,11 @@ module _ (own : TableRow) (strict : Bool) (p : Prefixes) (m : ℕ) where
   at_any_rm r h = grind arith
 
   not_there : (a b c d e n : Bool) → (n ≡ false → e ≡ false) → (a && (b && n)) ≡ false → (a && (b && (c && (d && e)))) ≡ false
-  not_there true true c d e false h k = rw (h refl) (both c d)
-    where
-      both : (c d : Bool) → (c && (d && false)) ≡ false
-      both c d = grind arith
-  not_there a b c d e n h k = grind arith
+  not_there a b c d e n h k = grind (arith, h)
 
   absent : (row : TemplateRow) → may_be row (is_memory m) (reg_field m) ≡ false → is_there row own strict p m ≡ false
   absent row h =
-      rw (place_same row.at.place, reg_same row.at.reg)
+      rw (place_same m row.at.place, reg_same row.at.reg)
       (not_there (at_place row.at.place (is_memory m)) (at_reg row.at.reg (reg_field m)) (is_rm row.at.rm strict m)
       (is_prefixed row.when own p) (is_named row.names m) (at_names row.names (reg_field m)) (unnamed row.names) h)
 
@@ -116,7 +103,7 @@ module _ (own : TableRow) (strict : Bool) (p : Prefixes) (m : ℕ) where
       let parts = and_parts (is_always row.when) (any_rm row.at.rm) (and_parts (is_first row) _ sure).0 in
       let here = and_parts (at_place row.at.place (is_memory m)) _ h in
       let reg = (and_parts (at_reg row.at.reg (reg_field m)) _ here.1).0 in
-      rw (place_same row.at.place, here.0, reg_same row.at.reg, reg, at_any_rm row.at.rm parts.1, any_prefixes row.when parts.0, name) refl
+      rw (place_same m row.at.place, here.0, reg_same row.at.reg, reg, at_any_rm row.at.rm parts.1, any_prefixes row.when parts.0, name) refl
 
   -- the first that may be there, counted from 1; 0 where none may be, or it isn't sure
   abbrev Holds : List TemplateRow → ℕ → TemplateRow → Type 0
@@ -151,44 +138,22 @@ module _ (own : TableRow) (strict : Bool) (p : Prefixes) (m : ℕ) where
 
 -- ---- it is read at once
 
-sure_place : (place : Place) (m : ℕ) → is_placed place m ≡ true → is_register_place place ≡ true → is_memory m ≡ false
-sure_place place m h e = grind arith
-
-bare_place : (place : Place) (m : ℕ) → is_placed place m ≡ true → (place ≡ Place.Bare → is_memory m ≡ false) → is_bare place ≡ true → is_memory m ≡ false
-bare_place Place.Bare m h n e = n refl
-bare_place place m h n e = grind arith
-
-or_not : (a b c : Bool) → (a || b) ≡ true → (b ≡ true → c ≡ false) → (a || not c) ≡ true
-or_not true b c h k = refl
-or_not false b c h k = rw (k h) refl
-
-pub is_read : (row : TemplateRow) (m : ℕ) → is_sure row ≡ true → is_placed row.at.place m ≡ true →
-    (row.at.place ≡ Place.Bare → is_memory m ≡ false) → is_read_at row.template m ≡ true
-is_read row m sure placed bare =
+pub is_read : (row : TemplateRow) (m : ℕ) → is_sure row ≡ true → is_placed row.at.place m ≡ true → is_read_at row.template m ≡ true
+is_read row m sure placed =
     let parts = and_parts (accepts row.verdict && keeps row.change) _ (and_parts (is_first row) (is_at_once row) sure).1 in
-    let plain = and_parts (is_simple row.template && is_last row.template.extra) _ parts.1 in
-    let sound = and_parts (is_sound_row row) _ plain.1 in
-    let stack = and_parts (is_sound row.template) _ sound.0 in
+    let plain = and_parts (is_simple row.template && is_last row.template.extra) (is_sound_row row) parts.1 in
     rw (
-      stack.0,
+      (and_parts (is_sound row.template) _ plain.1).0,
       (and_parts (is_simple row.template) _ plain.0).0,
-      or_not (not (is_stack row.template.rm)) (is_register_place row.at.place) (is_memory m) stack.1 (sure_place row.at.place m placed),
-      or_not (somewhere row.template.order.rm) (is_bare row.at.place) (is_memory m) sound.1 (bare_place row.at.place m placed bare),
+      fits_placed row m plain.1 placed,
     ) refl
 
 -- ---- its plan is that of its template
 
-last_by : (c : OperandEncoding) (n k : ℕ) (p : Prefixes) → is_last c ≡ true → settled c n p ≡ settled c k p
-last_by c n k p h = grind arith
-
-fixed_by : (of_opcode : Bool) (w : Width) (n k : ℕ) → (of_opcode ≡ true → n ≡ k) → fixed_encoding of_opcode w n ≡ fixed_encoding of_opcode w k
-fixed_by true w n k same = rw (same refl) refl
-fixed_by false w n k same = refl
-
 reg_by : (rm of_opcode : Bool) (w : Width) (n k : ℕ) → (of_opcode ≡ true → n ≡ k) →
     (if rm then reg_encoding w else fixed_encoding of_opcode w n) ≡ (if rm then reg_encoding w else fixed_encoding of_opcode w k)
-reg_by true of_opcode w n k same = refl
-reg_by false of_opcode w n k same = fixed_by of_opcode w n k same
+reg_by rm true w n k same = rw (same refl) refl
+reg_by rm false w n k same = refl
 
 -- a size that goes by no operation
 abbrev pub is_free : Size → Bool

@@ -1,23 +1,72 @@
--- The parts of sound templates, and what they have.
-use Rattle.std.proofs.Common.{◌≡◌, ◌<◌, List, [], ◌∷◌, map, take, length, get_or, ℕ, ◌+◌, ◌==◌, Bool, true, false, not, ◌&&◌, ◌||◌, if◌then◌else◌}
-use Rattle.std.proofs.Common.{arith, refl, sym, ap, ◌∙◌}
+-- The orders and the parts of sound templates, and what they have.
+use Rattle.std.proofs.Common.{◌≡◌, ◌<◌, List, [], ◌∷◌, map, take, length, get_or, ℕ, ◌+◌, ◌==◌, Bool, true, false, not, ◌||◌, if◌then◌else◌}
+use Rattle.std.proofs.Common.{None, arith, refl, sym, ap, ◌∙◌}
 use Rattle.std.specs.List.{list_all, list_any}
-use Rattle.std.proofs.lemmas.Bool.{and_parts}
+use Rattle.std.proofs.lemmas.Bool.{and_parts, eqb-true}
 use Rattle.std.proofs.lemmas.List.{take-map}
 use Rattle.std.proofs.lemmas.List.Elements.{All-get_or}
+use Rattle.std.proofs.lemmas.List.Folds.{list_all-map}
 use Rattle.std.proofs.lemmas.List.Sums.{AllPass-from_list_all}
-use Rattle.x86_operands.specs.Vocabulary.{OperandEncoding, Order, Prefixes, Template, Width, ModrmUse, TableRow, is_memory}
+use Rattle.x86_operands.specs.Vocabulary.{OperandEncoding, Order, Position, First, Second, Third, Fourth, Nowhere, Prefixes, Template, Width, ModrmUse}
+use Rattle.x86_operands.specs.Vocabulary.{TableRow, is_memory}
 use Rattle.x86_operands.specs.RowVocabulary.{Place, TemplateRow}
 use Rattle.x86_fields.specs.Pieces.{total}
 use Rattle.x86_operands.specs.Columns.{is_placed, plan_of_row}
 use Rattle.x86_operands.specs.Encodings.{settled}
 use Rattle.x86_operands.specs.Plans.{plan_encodings}
+use Rattle.x86_operands.specs.PlanSteps.{immediate_read}
 use Rattle.x86_operands.specs.Templates.{encoding_at, encodings_in, letters_in, fits_form, has_address, fixed_encoding, index_of_position, is_field, is_last}
-use Rattle.x86_operands.specs.Templates.{is_order, is_simple, is_read_at, is_sound, is_register_place, is_sound_row, is_stack, reg_encoding}
+use Rattle.x86_operands.specs.Templates.{is_order, is_order_of, is_simple, is_read_at, is_sound, is_register_place, is_sound_row, is_stack, reg_encoding}
 use Rattle.x86_operands.specs.Templates.{reg_part, rm_encoding, somewhere}
 use Rattle.x86_operands.specs.Asks.{immediate_width, immediates_width, part_width, plan_ask, uses_modrm, uses_suffix}
 use Rattle.x86_forms.specs.Words.{carried}
-use Rattle.x86_operands.proofs.OrderLemmas.{Named, no_named, named}
+
+-- ---- orders
+
+abbrev pub order : ℕ → Position → Position → Position → Position → Order
+order n reg rm last extra = record { count = n; reg = reg; rm = rm; last = last; extra = extra }
+
+pub data Named : Order → Type 0 where
+  no_named : Named (order 0 Nowhere Nowhere Nowhere Nowhere)
+  i_named : Named (order 1 Nowhere Nowhere First Nowhere)
+  i_x_named : Named (order 2 Nowhere Nowhere First Second)
+  r_named : Named (order 1 First Nowhere Nowhere Nowhere)
+  r_i_named : Named (order 2 First Nowhere Second Nowhere)
+  r_i_x_named : Named (order 3 First Nowhere Second Third)
+  i_r_named : Named (order 2 Second Nowhere First Nowhere)
+  e_named : Named (order 1 Nowhere First Nowhere Nowhere)
+  e_i_named : Named (order 2 Nowhere First Second Nowhere)
+  i_e_named : Named (order 2 Nowhere Second First Nowhere)
+  e_i_x_named : Named (order 3 Nowhere First Second Third)
+  e_g_named : Named (order 2 Second First Nowhere Nowhere)
+  g_e_named : Named (order 2 First Second Nowhere Nowhere)
+  e_g_i_named : Named (order 3 Second First Third Nowhere)
+  g_e_i_named : Named (order 3 First Second Third Nowhere)
+  g_e_i_x_named : Named (order 4 First Second Third Fourth)
+
+named_by : (a b c d : Position) (n : ℕ) → is_order_of a b c d n ≡ true → Named (order n a b c d)
+named_by Nowhere Nowhere Nowhere Nowhere n h = rw (eqb-true n 0 h) no_named
+named_by Nowhere Nowhere First Nowhere n h = rw (eqb-true n 1 h) i_named
+named_by Nowhere Nowhere First Second n h = rw (eqb-true n 2 h) i_x_named
+named_by First Nowhere Nowhere Nowhere n h = rw (eqb-true n 1 h) r_named
+named_by First Nowhere Second Nowhere n h = rw (eqb-true n 2 h) r_i_named
+named_by First Nowhere Second Third n h = rw (eqb-true n 3 h) r_i_x_named
+named_by Second Nowhere First Nowhere n h = rw (eqb-true n 2 h) i_r_named
+named_by Nowhere First Nowhere Nowhere n h = rw (eqb-true n 1 h) e_named
+named_by Nowhere First Second Nowhere n h = rw (eqb-true n 2 h) e_i_named
+named_by Nowhere Second First Nowhere n h = rw (eqb-true n 2 h) i_e_named
+named_by Nowhere First Second Third n h = rw (eqb-true n 3 h) e_i_x_named
+named_by Second First Nowhere Nowhere n h = rw (eqb-true n 2 h) e_g_named
+named_by First Second Nowhere Nowhere n h = rw (eqb-true n 2 h) g_e_named
+named_by Second First Third Nowhere n h = rw (eqb-true n 3 h) e_g_i_named
+named_by First Second Third Nowhere n h = rw (eqb-true n 3 h) g_e_i_named
+named_by First Second Third Fourth n h = rw (eqb-true n 4 h) g_e_i_x_named
+named_by a b c d n h = cc
+
+pub named : (o : Order) → is_order o ≡ true → Named o
+named o h = named_by o.reg o.rm o.last o.extra o.count h
+
+-- ---- what is sound
 
 not_true : (b : Bool) → not b ≡ true → b ≡ false
 not_true b h = grind arith
@@ -51,30 +100,29 @@ pub record ReadParts (t : Template) (m : ℕ) : Type 0 where
   pub last : is_last t.last ≡ true
   pub extra : somewhere t.order.extra ≡ false
   pub form : fits_form t m ≡ true
-  pub memory : (somewhere t.order.rm || not (is_memory m)) ≡ true
 
 pub read_parts : (t : Template) (m : ℕ) → is_read_at t m ≡ true → ReadParts t m
 read_parts t m h =
     let parts = and_parts (is_sound t) _ h in
-    let rest = and_parts (is_simple t) _ parts.1 in
+    let rest = and_parts (is_simple t) (fits_form t m) parts.1 in
     let plain = and_parts (is_last t.last) (not (somewhere t.order.extra)) rest.0 in
-    let forms = and_parts (fits_form t m) (somewhere t.order.rm || not (is_memory m)) rest.1 in
-    record { sound = sound_parts t parts.0; last = plain.0; extra = not_true (somewhere t.order.extra) plain.1; form = forms.0; memory = forms.1 }
+    record { sound = sound_parts t parts.0; last = plain.0; extra = not_true (somewhere t.order.extra) plain.1; form = rest.1 }
 
 -- ---- what a row has
 
-letter_width : (w : Width) → immediate_width (reg_encoding w) ≡ 0
-letter_width w = grind arith
+-- an operand of reg or rm reads no byte
+pub part_known : (t : Template) (n : ℕ) → immediate_read (reg_part t n) ≡ None
+part_known t n = grind arith
 
-fixed_width : (of_opcode : Bool) (w : Width) (n : ℕ) → immediate_width (fixed_encoding of_opcode w n) ≡ 0
-fixed_width of_opcode w n = grind arith
+pub rm_known : (w : Width) → immediate_read (rm_encoding w) ≡ None
+rm_known w = grind arith
 
-reg_width : (rm of_opcode : Bool) (w : Width) (n : ℕ) → immediate_width (if rm then reg_encoding w else fixed_encoding of_opcode w n) ≡ 0
-reg_width true of_opcode w n = letter_width w
-reg_width false of_opcode w n = fixed_width of_opcode w n
+no_width : (s : OperandEncoding) → immediate_read s ≡ None → immediate_width s ≡ 0
+no_width s h = rw h refl
 
-rm_width : (w : Width) → immediate_width (rm_encoding w) ≡ 0
-rm_width w = grind arith
+-- a last one has nothing of the opcode byte
+pub last_by : (c : OperandEncoding) (n k : ℕ) (p : Prefixes) → is_last c ≡ true → settled c n p ≡ settled c k p
+last_by c n k p h = grind arith
 
 width_in : {o : Order} → Named o → (a b c d : OperandEncoding) → immediate_width a ≡ 0 → immediate_width b ≡ 0 →
     total (map immediate_width (encodings_in o a b c d)) ≡ part_width o.last c + part_width o.extra d
@@ -88,7 +136,7 @@ row_width row own p m h =
     let t = row.template in
     let n = carried own.form in
     width_in (named t.order (sound_parts t h).order) (reg_part t n) (rm_encoding t.rm) (settled t.last n p) (settled t.extra n p)
-    (reg_width (somewhere t.order.rm) t.of_opcode t.reg n) (rm_width t.rm)
+    (no_width (reg_part t n) (part_known t n)) (no_width (rm_encoding t.rm) (rm_known t.rm))
 
 pub row_has_ask : (row : TemplateRow) (usage : ModrmUse) (own : TableRow) (p : Prefixes) (m : ℕ) → is_sound_row row ≡ true →
     plan_ask usage m (plan_of_row row own p m)
@@ -129,24 +177,17 @@ module _ (test : OperandEncoding → Bool) where
       sym (take-map test o.count (letters_in o a b c d)) ∙ four_same (at 0) (at 1) (at 2) (at 3) o.count
       ∙ take-map test o.count (letters_in o u b v w)
 
-  all_by_map : (l : List OperandEncoding) → list_all test l ≡ list_all (λ b. b) (map test l)
-  all_by_map [] = refl
-  all_by_map (s ∷ rest) = ap (λ b. test s && b) (all_by_map rest)
-
   any_by_map : (l : List OperandEncoding) → list_any test l ≡ list_any (λ b. b) (map test l)
   any_by_map [] = refl
   any_by_map (s ∷ rest) = ap (λ b. test s || b) (any_by_map rest)
 
   module _ (free : (s : OperandEncoding) (n : ℕ) (p : Prefixes) → test (settled s n p) ≡ test s) (row : TemplateRow) (own : TableRow)
       (p : Prefixes) (m : ℕ) where
-    fixed_same : (of_opcode : Bool) (w : Width) (n : ℕ) → test (fixed_encoding of_opcode w n) ≡ test (fixed_encoding of_opcode w 0)
-    fixed_same true w n = free (fixed_encoding true w 0) n p
-    fixed_same false w n = refl
-
     reg_same : (rm of_opcode : Bool) (w : Width) (n : ℕ) → test (if rm then reg_encoding w else fixed_encoding of_opcode w n) ≡
         test (if rm then reg_encoding w else fixed_encoding of_opcode w 0)
     reg_same true of_opcode w n = refl
-    reg_same false of_opcode w n = fixed_same of_opcode w n
+    reg_same false true w n = free (fixed_encoding true w 0) n p
+    reg_same false false w n = refl
 
     tests_same : map test (plan_encodings (plan_of_row row own p m)) ≡ map test (row_encodings row)
     tests_same =
@@ -156,7 +197,8 @@ module _ (test : OperandEncoding → Bool) where
         (reg_same (somewhere t.order.rm) t.of_opcode t.reg n) (free t.last n p) (free t.extra n p)
 
     pub all_same : list_all test (plan_encodings (plan_of_row row own p m)) ≡ list_all test (row_encodings row)
-    all_same = all_by_map (plan_encodings (plan_of_row row own p m)) ∙ ap (list_all (λ b. b)) tests_same ∙ sym (all_by_map (row_encodings row))
+    all_same = sym (list_all-map (λ b. b) test (plan_encodings (plan_of_row row own p m))) ∙ ap (list_all (λ b. b)) tests_same
+        ∙ list_all-map (λ b. b) test (row_encodings row)
 
     pub any_same : list_any test (plan_encodings (plan_of_row row own p m)) ≡ list_any test (row_encodings row)
     any_same = any_by_map (plan_encodings (plan_of_row row own p m)) ∙ ap (list_any (λ b. b)) tests_same ∙ sym (any_by_map (row_encodings row))

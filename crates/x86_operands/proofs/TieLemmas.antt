@@ -13,7 +13,7 @@ use Rattle.x86_operands.specs.Pieces.{is_decoded, suits, slot_read, operand_read
 use Rattle.x86_operands.specs.Pieces.{HasShapeAt, operand_from, SpellsOperands, SpellsMemory, SpellsRow}
 use Rattle.x86_operands.specs.Asks.{modrm_of}
 use Rattle.x86_operands.specs.Templates.{letters_in}
-use Rattle.x86_operands.proofs.RowLemmas.{row_read}
+use Rattle.x86_operands.proofs.RecordLemmas.{row_read}
 
 -- ---- one operand
 
@@ -90,19 +90,16 @@ pair_beyond [] k le = refl
 pair_beyond (x ∷ xs) zero le = absurd (omega arith)
 pair_beyond (x ∷ xs) (suc k) le = pair_beyond xs k (omega arith)
 
--- what is read at an index is of the pair there
-abbrev IsPairIn : List (Slot × Operand) → ℕ → Type 0
-IsPairIn xs k =
-    (slice_index_or (four_of xs).slots k slots.Nothing ≡ (pair_at xs k).0)
-    × (slice_index_or (four_of xs).operands k operands.Nothing ≡ (pair_at xs k).1)
+-- what is read at an index is the pair there
+abbrev pair_read : List Slot → List Operand → ℕ → Slot × Operand
+pair_read l m k = (slice_index_or l k slots.Nothing, slice_index_or m k operands.Nothing)
 
-pair_in : (xs : List (Slot × Operand)) (k : ℕ) → length xs ≤ 4 → IsPairIn xs k
-pair_in xs zero few = (refl, refl)
-pair_in xs (suc zero) few = (refl, refl)
-pair_in xs (suc (suc zero)) few = (refl, refl)
-pair_in xs (suc (suc (suc zero))) few = (refl, refl)
-pair_in xs (suc (suc (suc (suc k)))) few =
-    let none = pair_beyond xs (suc (suc (suc (suc k)))) (omega arith) in (sym (ap (λ x. x.0) none), sym (ap (λ x. x.1) none))
+pair_in : (xs : List (Slot × Operand)) (k : ℕ) → length xs ≤ 4 → pair_read (four_of xs).slots (four_of xs).operands k ≡ pair_at xs k
+pair_in xs zero few = refl
+pair_in xs (suc zero) few = refl
+pair_in xs (suc (suc zero)) few = refl
+pair_in xs (suc (suc (suc zero))) few = refl
+pair_in xs (suc (suc (suc (suc k)))) few = sym (pair_beyond xs (suc (suc (suc (suc k)))) (omega arith))
 
 module _ (r : RowRecord) (p : Prefixes) (bytes : List ℕ) (reading : Reading) (row_spelled : SpellsRow r p bytes reading) where
   abbrev operand_pairs : List (Slot × Operand)
@@ -124,23 +121,19 @@ module _ (r : RowRecord) (p : Prefixes) (bytes : List ℕ) (reading : Reading) (
   few_pairs : length operand_pairs ≤ 4
   few_pairs = let t = tied.0 in let f = at_most_four plan in omega arith
 
-  slot_here : (k : ℕ) → slot_read reading k ≡ (pair_at operand_pairs k).0
-  slot_here k = ap (λ x. slice_index_or x.slots k slots.Nothing) row_spelled.tail_spelled.yields ∙ (pair_in operand_pairs k few_pairs).0
+  here : (k : ℕ) → pair_read reading.slots reading.operands k ≡ pair_at operand_pairs k
+  here k = ap (λ x. pair_read x.slots x.operands k) row_spelled.tail_spelled.yields ∙ pair_in operand_pairs k few_pairs
 
-  operand_here : (k : ℕ) → operand_read reading k ≡ (pair_at operand_pairs k).1
-  operand_here k = ap (λ x. slice_index_or x.operands k operands.Nothing) row_spelled.tail_spelled.yields ∙ (pair_in operand_pairs k few_pairs).1
-
-  nothing_here : (k : ℕ) → reading.count ≤ k → pair_at operand_pairs k ≡ (slots.Nothing, operands.Nothing)
-  nothing_here k le = pair_beyond operand_pairs k (let c = counts in omega arith)
+  nothing_here : (k : ℕ) → reading.count ≤ k → pair_read reading.slots reading.operands k ≡ (slots.Nothing, operands.Nothing)
+  nothing_here k le = here k ∙ pair_beyond operand_pairs k (let c = counts in omega arith)
 
   pub spelled_tied : AreTied reading
   spelled_tied = record {
     few = let c = counts in let f = few_pairs in omega arith;
-    decoded = λ k below. ap is_decoded (operand_here k) ∙ (tied.1 k (let c = counts in omega arith)).0;
-    suited = λ k below. ap (λ o. suits (slot_read reading k) o) (operand_here k)
-        ∙ ap (λ s. suits s (pair_at operand_pairs k).1) (slot_here k) ∙ (tied.1 k (let c = counts in omega arith)).1;
-    empty_slots = λ k le. slot_here k ∙ ap (λ x. x.0) (nothing_here k le);
-    empty_operands = λ k le. operand_here k ∙ ap (λ x. x.1) (nothing_here k le);
+    decoded = λ k below. ap (λ x. is_decoded x.1) (here k) ∙ (tied.1 k (let c = counts in omega arith)).0;
+    suited = λ k below. ap (λ x. suits x.0 x.1) (here k) ∙ (tied.1 k (let c = counts in omega arith)).1;
+    empty_slots = λ k le. ap (λ x. x.0) (nothing_here k le);
+    empty_operands = λ k le. ap (λ x. x.1) (nothing_here k le);
   }
 
   module _ (raw : Raw) (memory : row_spelled.tail_spelled.pieces.memory ≡ Some raw) where
@@ -159,8 +152,8 @@ module _ (r : RowRecord) (p : Prefixes) (bytes : List ℕ) (reading : Reading) (
         let within : k < length operand_pairs = shapes.0 in
         record {
           below = let c = counts in omega arith;
-          slot = slot_here k ∙ ap (λ x. x.0) shapes.1;
-          operand = operand_here k ∙ ap (λ x. x.1) shapes.1;
+          slot = ap (λ x. x.0) (here k ∙ shapes.1);
+          operand = ap (λ x. x.1) (here k ∙ shapes.1);
         }
 
 -- what is read is tied

@@ -5,9 +5,9 @@ use Rattle.std.specs.Option.{option_map_or}
 use Rattle.x86_operands.specs.Vocabulary.{RegSpec, RegisterClass, DecodeError, Prefixes, Raw, Slot, Operand, RegisterSlot, PointerSlot}
 use Rattle.x86_operands.specs.Vocabulary.{OperandEncoding, G, Gmm, E, Emm, I8, I16, I32, I64, I32From16, I64Whole, U8, U16, X8, X16}
 use Rattle.x86_operands.specs.Vocabulary.{ConstantI8, ConstantU8, Address32, Address64, Position, Fault}
-use Rattle.x86_operands.specs.Vocabulary.{BadOpcode, BadOperand, Incomplete, Verdict, NamedBySuffix, Refuses, PrefixChange, Keeps}
+use Rattle.x86_operands.specs.Vocabulary.{BadOpcode, BadOperand, Incomplete, Verdict, Accepts, NamedBySuffix, Refuses, PrefixChange, Keeps}
 use Rattle.x86_operands.specs.Vocabulary.{ClearsOperandSize, SetsEs, ModrmUse, Absent, EitherForm, Registers, Reading, Operands}
-use Rattle.x86_operands.specs.Vocabulary.{reg_spec, reg_field, rm_field, is_memory, absent_modrm, as_register, register_of, class_of}
+use Rattle.x86_operands.specs.Vocabulary.{reg_spec, reg_field, rm_field, absent_modrm, as_register, register_of, class_of}
 use Rattle.x86_operands.specs.Vocabulary.{address_size}
 use Rattle.x86_regs.specs.declared.RegisterClass.TheVariants as class
 use Rattle.x86_operands.specs.declared.plans.OperandEncoding.TheVariants as encoding
@@ -21,7 +21,7 @@ use Rattle.x86_operands.specs.declared.plans.RegisterSlot.TheVariants as reg_slo
 use Rattle.x86_operands.specs.declared.plans.PointerSlot.TheVariants as pointer
 use Rattle.x86_operands.specs.Operands.{shape}
 use Rattle.x86_operands.specs.Plans.{Plan, RowRecord, plan_encodings, reg_number, rm_number}
-use Rattle.x86_operands.specs.Templates.{somewhere}
+use Rattle.x86_operands.specs.Templates.{has_address}
 use Rattle.std.specs.Map.{lookup}
 use Rattle.x86_opcodes.specs.Names.{PI2FW, PI2FD, PF2IW, PF2ID, PFNACC, PFPNACC, PFCMPGE, PFMIN, PFRCP, PFRSQRT, PFSUB, PFADD, PFCMPGT}
 use Rattle.x86_opcodes.specs.Names.{PFMAX, PFRCPIT1, PFRSQIT1, PFSUBR, PFACC, PFCMPEQ, PFMUL, PFRCPIT2, PMULHRW, PSWAPD, PAVGUSB}
@@ -133,10 +133,6 @@ four_of xs = record {
   mem_size = 0;
 }
 
--- the pairs, filled up to four
-unfoldable pub filled_step : List OperandEncoding → Prefixes → ℕ → Option Raw → Step Operands
-filled_step encodings p m memory = operands_step encodings p m memory >>= λ xs. pure (four_of xs)
-
 -- ---- refusals
 
 abbrev pub error_of : Fault → DecodeError
@@ -144,26 +140,18 @@ error_of BadOpcode = InvalidOpcode
 error_of BadOperand = InvalidOperand
 error_of Incomplete = IncompleteDecoder
 
--- the refusal of a row that refuses
-abbrev pub refuse_by : Verdict → Step (Unit {0})
-refuse_by (Refuses fault) = refuse (error_of fault)
-refuse_by verdict = pure tt
-
--- ---- the opcode
+-- ---- how a row ends: with its opcode, with the one that a suffix names, or with its refusal
 
 abbrev pub read_opcode : Verdict → ℕ → Step ℕ
+read_opcode Accepts opcode = pure opcode
 read_opcode NamedBySuffix opcode = next_byte >>= λ b. option_map_or pure (suffix_opcode b) (refuse InvalidOpcode)
-read_opcode verdict opcode = pure opcode
+read_opcode (Refuses fault) opcode = refuse (error_of fault)
 
 -- ---- the whole record
 
--- the memory operand's bytes, in the memory form
-abbrev pub read_memory : Prefixes → ℕ → Step (Option Raw)
-read_memory p m = if is_memory m then (read_raw p m >>= λ raw. pure (Some raw)) else pure None
-
--- the same, where an operand is of rm
+-- the memory operand's bytes, in the memory form, where an operand is of rm
 abbrev pub address_step : Position → Prefixes → ℕ → Step (Option Raw)
-address_step at p m = if somewhere at then read_memory p m else pure None
+address_step at p m = if has_address at m then (read_raw p m >>= λ raw. pure (Some raw)) else pure None
 
 -- the prefixes with the record's change
 abbrev pub changed : PrefixChange → Prefixes → Prefixes
@@ -185,15 +173,14 @@ reading_from plan p opcode operand_pairs = record {
 unfoldable pub read_plan : Plan → Prefixes → ℕ → Step Reading
 read_plan plan p m =
     address_step plan.order.rm p m >>= λ memory.
-    filled_step (plan_encodings plan) p m memory >>= λ operand_pairs.
+    operands_step (plan_encodings plan) p m memory >>= λ operand_pairs.
     read_opcode plan.verdict plan.opcode >>= λ opcode.
-    refuse_by plan.verdict >>= λ _.
-    pure (reading_from plan p opcode operand_pairs)
+    pure (reading_from plan p opcode (four_of operand_pairs))
 
 -- ModRM as the row uses it: a byte that isn't there reads as C0, and one whose mod isn't looked at as mod 11
 abbrev pub read_modrm : ModrmUse → Step ℕ
 read_modrm Absent = pure absent_modrm
-read_modrm EitherForm = next_byte >>= λ m. pure m
+read_modrm EitherForm = next_byte
 read_modrm Registers = next_byte >>= λ m. pure (as_register m)
 
 abbrev pub refuse_fault : Option Fault → Step (Unit {0})

@@ -94,21 +94,6 @@ is_field encoding.Emm = true
 is_field encoding.StRm = true
 is_field s = false
 
--- an operand for which no byte is read, and which is neither a number nor a register that the name implies
-abbrev pub is_known : OperandEncoding → Bool
-is_known encoding.Cr = true
-is_known encoding.Dr = true
-is_known encoding.Sr = true
-is_known encoding.RdInReg = true
-is_known (encoding.Z at w n) = true
-is_known (encoding.A w) = true
-is_known (encoding.At at n c) = true
-is_known encoding.Source = true
-is_known encoding.Destination = true
-is_known encoding.Jv = true
-is_known encoding.Offset = true
-is_known s = false
-
 abbrev pub is_sound : Template → Bool
 is_sound t = is_order t.order && (not (is_field t.last) && not (is_field t.extra))
 
@@ -141,9 +126,8 @@ is_last s = false
 abbrev pub is_simple : Template → Bool
 is_simple t = is_last t.last && not (somewhere t.order.extra)
 
--- a memory form has an operand of rm
 abbrev pub is_read_at : Template → ℕ → Bool
-is_read_at t m = is_sound t && (is_simple t && (fits_form t m && (somewhere t.order.rm || not (is_memory m))))
+is_read_at t m = is_sound t && (is_simple t && fits_form t m)
 
 -- a row whose template is sound, and has a register of the stack in the register form alone
 abbrev pub is_register_place : Place → Bool

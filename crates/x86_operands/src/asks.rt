@@ -1,7 +1,7 @@
 //! What a row has after its opcode byte, known from a ModRM byte alone.
 ghost use Rattle.std.specs.Prelude.{◌≡◌, ◌≤◌, true};
 ghost use Rattle.x86_fields.specs.Pieces.{option_bytes};
-ghost use Rattle.x86_operands.specs.Asks.{immediate_width, modrm_of, part_width, plan_ask, uses_modrm};
+ghost use Rattle.x86_operands.specs.Asks.{immediate_width, modrm_of, part_width, plan_ask};
 ghost use Rattle.x86_operands.specs.Columns.{plan_of_row};
 ghost use Rattle.x86_operands.specs.Encodings.{settled};
 ghost use Rattle.x86_operands.specs.Templates.{is_sound_row};
@@ -79,15 +79,6 @@ fn part_width(at: Position, encoding: OperandEncoding, num: u8, prefixes: &Prefi
     }
 }
 
-impl ModrmUse {
-    /// Whether there is a ModRM byte.
-    fn has_modrm(self) -> bool
-        ensures { result ≡ uses_modrm self }
-    {
-        !matches!(self, ModrmUse::Absent)
-    }
-}
-
 impl TemplateRow {
     /// Which parts the row has at a ModRM byte that is used so; `own` is the row in the opcode map.
     #[tactic(auto, using(crate::proofs::TemplateLemmas::row_has_ask))]
@@ -104,8 +95,8 @@ impl TemplateRow {
         } = self.template;
         let num = own.form.carried();
         Ask {
-            modrm: usage.has_modrm(),
-            memory: order.rm.is_somewhere() && modrm.is_memory(),
+            modrm: !matches!(usage, ModrmUse::Absent),
+            memory: !matches!(order.rm, Position::Nowhere) && modrm.is_memory(),
             immediate: part_width(order.last, last, num, prefixes)
                 + part_width(order.extra, extra, num, prefixes),
             suffix: self.has_suffix(),

@@ -1,8 +1,7 @@
 //! How a form goes on after its opcode byte, and its row where the form and mod alone choose it.
 
-ghost use Rattle.std.specs.Prelude.{◌≡◌, false, IfSome};
-ghost use Rattle.x86_operands.specs.Vocabulary.{Absent, is_memory};
-ghost use Rattle.x86_operands.specs.Forms.{Follows, IsPlainRow, is_direct, modrm_use};
+ghost use Rattle.std.specs.Prelude.{◌≡◌, IfSome};
+ghost use Rattle.x86_operands.specs.Forms.{Follows, IsPlainRow, is_direct};
 
 use crate::tables::{HEADS, ROWS};
 use crate::templates::Template;
@@ -63,7 +62,6 @@ pub fn word_after(found: &WordRow) -> After
 /// The operands of a plain form at a ModRM byte, where they are read at once, and the form and mod alone choose its row.
 #[inline(always)]
 pub fn plain_row(found: &WordRow, modrm: ModRM) -> Option<&'static Template>
-    requires { modrm_use found.now.row.form ≡ Absent → is_memory modrm ≡ false }
     ensures { IfSome result (λ template. IsPlainRow found.now modrm template.now) }
 {
     let head = &HEADS[found.form_number];

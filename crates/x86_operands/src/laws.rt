@@ -72,7 +72,7 @@ pub fn shapes_have_the_address()
 /// What `read_form` and `read_group` take, and any reader of a record. On Ok these are the pieces that the record
 /// has, wherever the bytes begin with them; after a refusal those that the record takes before; and at
 /// `ExhaustedInput` those before the first that isn't whole.
-#[tactic(auto, using(crate::proofs::RowLemmas::row_read, crate::proofs::RowLemmas::row_refused, crate::proofs::RowLemmas::row_open))]
+#[tactic(auto, using(crate::proofs::RecordLemmas::row_read, crate::proofs::RecordLemmas::row_refused, crate::proofs::RecordLemmas::row_open))]
 pub fn rows_are_read()
     ensures whole { (r : RowRecord) (p : Prefixes) (s : State ℕ) (reading : Reading) →
         (record_step r p s).answer ≡ Ok reading →
@@ -93,7 +93,7 @@ pub fn rows_are_read()
 
 /// No reader of a record answers `InvalidPrefixes` or `TooLong`, and `IncompleteDecoder` comes only where the record
 /// or one of its plans refuses so.
-#[tactic(auto, using(crate::proofs::RowLemmas::row_has_no_prefixes, crate::proofs::RowLemmas::row_has_no_length, crate::proofs::RowLemmas::row_left_out))]
+#[tactic(auto, using(crate::proofs::RecordLemmas::row_has_no_prefixes, crate::proofs::RecordLemmas::row_has_no_length, crate::proofs::RecordLemmas::row_left_out))]
 pub fn rows_refuse_by_faults()
     ensures no_prefixes { (r : RowRecord) (p : Prefixes) (s : State ℕ) →
         (record_step r p s).answer ≢ Err InvalidPrefixes }

@@ -1,17 +1,16 @@
 //! The operands of an instruction: what their encodings yield, written where it stays.
 
-ghost use Rattle.std.specs.Prelude.{◌≡◌, ◌<◌, ◌≢◌, ℕ, Option, true, false, OnOk};
+ghost use Rattle.std.specs.Prelude.{◌≡◌, ◌<◌, ◌≢◌, ℕ, Option, None, true, OnOk};
 ghost use Rattle.x86_fields.specs.Steps.{outcome};
-ghost use Rattle.x86_forms.specs.Words.{carried};
 ghost use Rattle.x86_operands.specs.Vocabulary.{Nowhere, Prefixes, Raw};
-ghost use Rattle.x86_operands.specs.PlanSteps.{read_plan, register_slot};
-ghost use Rattle.x86_operands.specs.OperandList.{reg_pair, rm_pair, fixed_pair, no_operands, reading_with, value_if_ok, put_in, put_at, put_encoded, encoded_read, leading_read, rm_read, other_read, all_read, sized, slot_in, operand_in};
-ghost use Rattle.x86_operands.specs.Places.{place_after_address, place_of};
-ghost use Rattle.x86_operands.specs.Encodings.{settled, size_bytes};
+ghost use Rattle.x86_operands.specs.PlanSteps.{known_operand, read_plan, register_slot};
+ghost use Rattle.x86_operands.specs.OperandList.{no_operands, reading_with, value_if_ok, put_in, put_at, put_encoded, leading_read, rm_read, other_read, sized_by, slot_in, operand_in};
+ghost use Rattle.x86_operands.specs.Places.{place_after_address};
+ghost use Rattle.x86_operands.specs.Encodings.{settled};
 ghost use Rattle.x86_operands.specs.Plans.{template_plan};
-ghost use Rattle.x86_operands.specs.Templates.{fits_form, is_field, is_last, is_read_at, is_sound, size_at};
+ghost use Rattle.x86_operands.specs.Templates.{fits_form, fixed_encoding, is_last, is_read_at, reg_encoding, rm_encoding};
 
-use crate::order::{Order, Position};
+use crate::order::Position;
 use crate::places::place_of;
 use crate::plans::{OperandEncoding, RegisterSlot};
 use crate::shapes::put_shape;
@@ -21,7 +20,6 @@ use x86_fields::{
     DecodeError, ModRM, PrefixedModRM, Prefixes, Width, extend, read_raw, read_u8, read_u16,
     read_u32, read_u64,
 };
-use x86_forms::TableRow;
 use x86_opcodes::Opcode;
 use x86_regs::{RegSpec, RegisterClass};
 
@@ -38,6 +36,15 @@ pub struct Operands {
     pub mem_size: u8,
 }
 
+/// Writes an immediate at an index: its slot, its kind, and its number.
+macro_rules! put {
+    ($list:ident $at:ident $slot:ident $operand:ident $imm:expr) => {
+        $list.put_at($at, Slot::$slot, Operand::$operand { imm: $imm })
+    };
+}
+
+pub(crate) use put;
+
 impl Operands {
     /// Writes a slot and its operand at an index.
     pub(crate) fn put_at(&mut self, at: usize, slot: Slot, operand: Operand)
@@ -46,13 +53,6 @@ impl Operands {
     {
         self.slots[at] = slot;
         self.operands[at] = operand;
-    }
-
-    pub(crate) fn put_register(&mut self, at: usize, slot: Slot, reg: RegSpec)
-        requires { at < 4 }
-        ensures { self.new ≡ put_at at (slot, Operand.Register reg) self.old }
-    {
-        self.put_at(at, slot, Operand::Register { reg });
     }
 
     pub(crate) fn put_in_slot(&mut self, at: usize, slot: RegisterSlot, reg: RegSpec)
@@ -64,49 +64,7 @@ impl Operands {
             RegisterSlot::Rm => Slot::Rm,
             RegisterSlot::Third => Slot::Third,
         };
-        self.put_register(at, slot, reg);
-    }
-
-    fn put_i8(&mut self, at: usize, imm: i8)
-        requires { at < 4 }
-        ensures { self.new ≡ put_at at (Slot.ImmI8, Operand.ImmediateI8 imm) self.old }
-    {
-        self.put_at(at, Slot::ImmI8, Operand::ImmediateI8 { imm });
-    }
-
-    pub(crate) fn put_u8(&mut self, at: usize, imm: u8)
-        requires { at < 4 }
-        ensures { self.new ≡ put_at at (Slot.ImmU8, Operand.ImmediateU8 imm) self.old }
-    {
-        self.put_at(at, Slot::ImmU8, Operand::ImmediateU8 { imm });
-    }
-
-    fn put_i16(&mut self, at: usize, imm: i16)
-        requires { at < 4 }
-        ensures { self.new ≡ put_at at (Slot.ImmI16, Operand.ImmediateI16 imm) self.old }
-    {
-        self.put_at(at, Slot::ImmI16, Operand::ImmediateI16 { imm });
-    }
-
-    pub(crate) fn put_u16(&mut self, at: usize, slot: Slot, imm: u16)
-        requires { at < 4 }
-        ensures { self.new ≡ put_at at (slot, Operand.ImmediateU16 imm) self.old }
-    {
-        self.put_at(at, slot, Operand::ImmediateU16 { imm });
-    }
-
-    pub(crate) fn put_i32(&mut self, at: usize, imm: i32)
-        requires { at < 4 }
-        ensures { self.new ≡ put_at at (Slot.ImmI32, Operand.ImmediateI32 imm) self.old }
-    {
-        self.put_at(at, Slot::ImmI32, Operand::ImmediateI32 { imm });
-    }
-
-    fn put_i64(&mut self, at: usize, imm: i64)
-        requires { at < 4 }
-        ensures { self.new ≡ put_at at (Slot.ImmI64, Operand.ImmediateI64 imm) self.old }
-    {
-        self.put_at(at, Slot::ImmI64, Operand::ImmediateI64 { imm });
+        self.put_at(at, slot, Operand::Register { reg });
     }
 
     /// Writes the operand of a last encoding at an index: an immediate, or a constant that no byte spells.
@@ -125,26 +83,32 @@ impl Operands {
             ≡ put_encoded at encoding p m memory self.old (T.state reader.old) }
     {
         match encoding {
-            OperandEncoding::I8 => self.put_i8(at, read_u8(reader)?.cast_signed()),
-            OperandEncoding::U8 => self.put_u8(at, read_u8(reader)?),
-            OperandEncoding::I16 => self.put_i16(at, read_u16(reader)?.cast_signed()),
-            OperandEncoding::U16 => self.put_u16(at, Slot::ImmU16, read_u16(reader)?),
-            OperandEncoding::I32 => self.put_i32(at, read_u32(reader)?.cast_signed()),
-            OperandEncoding::I64 => self.put_i64(at, read_u32(reader)?.cast_signed() as i64),
-            OperandEncoding::I64Whole => self.put_i64(at, read_u64(reader)?.cast_signed()),
-            OperandEncoding::ConstantI8(imm) => self.put_i8(at, imm),
-            OperandEncoding::ConstantU8(imm) => self.put_u8(at, imm),
+            OperandEncoding::I8 => put!(self at ImmI8 ImmediateI8 read_u8(reader)?.cast_signed()),
+            OperandEncoding::U8 => put!(self at ImmU8 ImmediateU8 read_u8(reader)?),
+            OperandEncoding::I16 =>
+                put!(self at ImmI16 ImmediateI16 read_u16(reader)?.cast_signed()),
+            OperandEncoding::U16 => put!(self at ImmU16 ImmediateU16 read_u16(reader)?),
+            OperandEncoding::I32 =>
+                put!(self at ImmI32 ImmediateI32 read_u32(reader)?.cast_signed()),
+            OperandEncoding::I64 => {
+                put!(self at ImmI64 ImmediateI64 read_u32(reader)?.cast_signed() as i64)
+            }
+            OperandEncoding::I64Whole => {
+                put!(self at ImmI64 ImmediateI64 read_u64(reader)?.cast_signed())
+            }
+            OperandEncoding::ConstantI8(imm) => put!(self at ImmI8 ImmediateI8 imm),
+            OperandEncoding::ConstantU8(imm) => put!(self at ImmU8 ImmediateU8 imm),
             OperandEncoding::Implied(slot, num, class) => {
                 self.put_in_slot(at, slot, RegSpec::of(num, class));
             }
             // No last operand of a plan has another encoding.
-            _ => self.put_u8(at, 0),
+            _ => put!(self at ImmU8 ImmediateU8 0),
         }
         Ok(())
     }
 
     /// The last operand, as its encoding yields it.
-    #[tactic(auto, using(crate::proofs::InPlaceLemmas::encoded_at_position))]
+    #[tactic(auto, using(crate::proofs::InPlaceLemmas::at_position))]
     #[inline(always)]
     fn read_last<T: Reader<u64, u8>>(
         &mut self,
@@ -155,8 +119,9 @@ impl Operands {
     ) -> Result<(), DecodeError>
         requires position { at ≢ Nowhere }
         requires last { is_last last ≡ true }
-        ensures { outcome (value_if_ok result self.new) (T.state reader.new) ≡ encoded_read at
-            (settled last 0 prefixes.now) prefixes.now self.old (T.state reader.old) }
+        ensures { (n m : ℕ) → outcome (value_if_ok result self.new) (T.state reader.new)
+            ≡ other_read at (settled last n prefixes.now) prefixes.now m self.old
+            (T.state reader.old) }
     {
         self.put_last(at as usize, reader, last.settled(0, prefixes))
     }
@@ -164,8 +129,8 @@ impl Operands {
     /// The register of reg, if it is an operand.
     #[inline(always)]
     fn put_reg(&mut self, at: Position, width: Width, fields: &PrefixedModRM<'_>)
-        ensures { self.new ≡ put_in at (reg_pair width fields.now.prefixes.now fields.now.modrm)
-            self.old }
+        ensures { self.new ≡ put_in at (known_operand (reg_encoding width)
+            fields.now.prefixes.now fields.now.modrm None) self.old }
     {
         match at {
             Position::Nowhere => {}
@@ -183,8 +148,8 @@ impl Operands {
     #[inline(always)]
     fn put_rm(&mut self, at: Position, width: Width, fields: &PrefixedModRM<'_>)
         requires { at ≢ Nowhere }
-        ensures { self.new ≡ put_in at (rm_pair width fields.now.prefixes.now fields.now.modrm)
-            self.old }
+        ensures { self.new ≡ put_in at (known_operand (rm_encoding width)
+            fields.now.prefixes.now fields.now.modrm None) self.old }
     {
         let reg = match width {
             Width::Mm => RegSpec::mm(fields.modrm.rm_field()),
@@ -198,8 +163,9 @@ impl Operands {
     #[inline(always)]
     fn put_fixed(&mut self, template: &Template, num: u8, fields: &PrefixedModRM<'_>)
         requires { num < 8 }
-        ensures { self.new ≡ put_in template.now.order.reg (fixed_pair template.now.of_opcode
-            template.now.reg num fields.now.prefixes.now) self.old }
+        ensures { (m : ℕ) → self.new ≡ put_in template.now.order.reg (known_operand
+            (fixed_encoding template.now.of_opcode template.now.reg num) fields.now.prefixes.now m
+            None) self.old }
     {
         match template.order.reg {
             Position::Nowhere => {}
@@ -288,8 +254,9 @@ impl Operands {
 
     /// The operands of ModRM or of the opcode byte, how many operands there are, their memory size, and the place after
     /// SIB and displacement. `opcode` is the one of the opcode map.
+    #[tactic(auto, using(crate::proofs::InPlaceLemmas::address_is_read))]
     #[inline(always)]
-    fn read_first<T: Reader<u64, u8>>(
+    pub(crate) fn read_first<T: Reader<u64, u8>>(
         &mut self,
         reader: &mut T,
         template: &Template,
@@ -303,10 +270,10 @@ impl Operands {
         requires form { fits_form template.now fields.now.modrm ≡ true }
         ensures read { outcome (value_if_ok result self.new) (T.state reader.new)
             ≡ leading_read template.now num fields.now.prefixes.now fields.now.modrm
-            (sized template.now.order.count
-            (size_bytes (size_at template.now fields.now.modrm) opcode fields.now.prefixes.now))
+            (sized_by template.now opcode fields.now.prefixes.now fields.now.modrm)
             (T.state reader.old) }
-        ensures address { OnOk result (address_end.new ≡ place_of (T.state reader.new).since_mark) }
+        ensures address { OnOk result (address_end.new ≡ place_after_address
+            template.now.order.rm fields.now.prefixes.now fields.now.modrm (T.state reader.old)) }
     {
         self.count = template.order.count;
         self.mem_size = template.mem_size(fields.in_memory, opcode, fields.sizes);
@@ -345,63 +312,6 @@ impl Operands {
             Position::Nowhere => Ok(()),
             at => self.read_last(at, reader, template.last, prefixes),
         }
-    }
-
-    /// Another operand, if there is one.
-    fn read_other<T: Reader<u64, u8>>(
-        &mut self,
-        at: Position,
-        reader: &mut T,
-        encoding: OperandEncoding,
-        num: u8,
-        prefixes: &Prefixes,
-        modrm: ModRM,
-    ) -> Result<(), DecodeError>
-        requires { is_field encoding ≡ false }
-        ensures { outcome (value_if_ok result self.new) (T.state reader.new)
-            ≡ other_read at encoding num prefixes.now modrm self.old (T.state reader.old) }
-    {
-        match at {
-            Position::Nowhere => Ok(()),
-            at => {
-                let encoding = encoding.settled(num, prefixes);
-                self.put_other(at as usize, reader, encoding, prefixes, modrm)
-            }
-        }
-    }
-
-    /// The operands of any row, and the place after SIB and displacement.
-    #[tactic(auto, using(crate::proofs::TemplateLemmas::sound_parts))]
-    pub(crate) fn read_all<T: Reader<u64, u8>>(
-        &mut self,
-        reader: &mut T,
-        template: &Template,
-        own: &TableRow,
-        prefixes: &Prefixes,
-        modrm: ModRM,
-        address_end: &mut u8,
-    ) -> Result<(), DecodeError>
-        requires blank { self.old ≡ no_operands }
-        requires small { carried own.now.form < 8 }
-        requires sound { is_sound template.now ≡ true }
-        requires form { fits_form template.now modrm ≡ true }
-        ensures read { outcome (value_if_ok result self.new) (T.state reader.new)
-            ≡ all_read template.now (carried own.now.form) prefixes.now modrm
-            (sized template.now.order.count
-            (size_bytes (size_at template.now modrm) own.now.opcode prefixes.now))
-            (T.state reader.old) }
-        ensures address { OnOk result (address_end.new
-            ≡ place_of (leading_read template.now (carried own.now.form) prefixes.now modrm
-            (sized template.now.order.count
-            (size_bytes (size_at template.now modrm) own.now.opcode prefixes.now))
-            (T.state reader.old)).after.since_mark) }
-    {
-        let fields = PrefixedModRM::of(prefixes, modrm);
-        let num = own.form.carried();
-        self.read_first(reader, template, own.opcode, num, &fields, address_end)?;
-        let Order { last, extra, .. } = template.order;
-        self.read_other(last, reader, template.last, num, prefixes, modrm)?;
-        self.read_other(extra, reader, template.extra, num, prefixes, modrm)
     }
 
     /// The slot at an index, counted from 0; at the count and above it `Slot::Nothing`.

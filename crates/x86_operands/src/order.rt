@@ -1,8 +1,5 @@
 //! The order of a row's operands.
 
-ghost use Rattle.std.specs.Prelude.{◌≡◌};
-ghost use Rattle.x86_operands.specs.Templates.{somewhere};
-
 /// Which operand something is. As a number it is the index of the operand.
 #[derive(Clone, Copy, Drop)]
 pub enum Position {
@@ -11,15 +8,6 @@ pub enum Position {
     Third,
     Fourth,
     Nowhere,
-}
-
-impl Position {
-    /// Whether there is such an operand.
-    pub(crate) fn is_somewhere(self) -> bool
-        ensures { result ≡ somewhere self }
-    {
-        !matches!(self, Position::Nowhere)
-    }
 }
 
 /// The order of the operands. A constant's name has them in that order: R the register of reg or of the opcode byte (G

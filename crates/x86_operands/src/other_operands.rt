@@ -3,11 +3,13 @@
 ghost use Rattle.std.specs.Prelude.{◌≡◌, ◌<◌, Option, true, false};
 ghost use Rattle.x86_fields.specs.Steps.{outcome};
 ghost use Rattle.x86_operands.specs.Vocabulary.{Raw, reg_spec};
-ghost use Rattle.x86_operands.specs.PlanSteps.{known_operand, pointer_class, pointer_slot};
-ghost use Rattle.x86_operands.specs.OperandList.{value_if_ok, put_at, put_encoded};
-ghost use Rattle.x86_operands.specs.Templates.{is_field, is_known};
+ghost use Rattle.x86_operands.specs.PlanSteps.{pointer_class, pointer_slot};
+ghost use Rattle.x86_operands.specs.OperandList.{value_if_ok, put_at, put_encoded, other_read};
+ghost use Rattle.x86_operands.specs.Encodings.{settled};
+ghost use Rattle.x86_operands.specs.Templates.{is_field};
 
-use crate::operand_list::Operands;
+use crate::operand_list::{Operands, put};
+use crate::order::Position;
 use crate::plans::{OperandEncoding, PointerSlot};
 use crate::{Operand, Slot};
 use x86_arch::Reader;
@@ -20,7 +22,8 @@ impl Operands {
         requires { at < 4 }
         ensures { self.new ≡ put_at at (Slot.Reg, Operand.Register (reg_spec num class)) self.old }
     {
-        self.put_register(at, Slot::Reg, RegSpec::of(num, class));
+        let reg = RegSpec::of(num, class);
+        self.put_at(at, Slot::Reg, Operand::Register { reg });
     }
 
     fn put_memory(&mut self, at: usize, slot: PointerSlot, base: RegSpec)
@@ -47,37 +50,6 @@ impl Operands {
         self.put_memory(at, PointerSlot::Deref, RegSpec::of(num, class));
     }
 
-    /// What an operand yields that takes no byte, at an index.
-    #[tactic(auto, unfolding(crate::specs::PlanSteps::operand_step))]
-    fn put_known(&mut self, at: usize, encoding: OperandEncoding, prefixes: &Prefixes, modrm: ModRM)
-        requires index { at < 4 }
-        requires known { is_known encoding ≡ true }
-        ensures { (memory : Option Raw) →
-            self.new ≡ put_at at (known_operand encoding prefixes.now modrm memory) self.old }
-    {
-        let sizes = prefixes.size_prefixes();
-        match encoding {
-            OperandEncoding::Cr => self.put_numbered(at, prefixes.reg_number(modrm), CR),
-            OperandEncoding::Dr => self.put_numbered(at, prefixes.reg_number(modrm), DR),
-            OperandEncoding::Sr => self.put_numbered(at, prefixes.reg_number(modrm), S),
-            OperandEncoding::RdInReg => self.put_numbered(at, prefixes.rm_number(modrm), D),
-            OperandEncoding::Z(slot, width, num) => {
-                let num = prefixes.rm_number(ModRM::new(num));
-                self.put_in_slot(at, slot, prefixes.register(width.class(sizes), num));
-            }
-            OperandEncoding::A(width) => {
-                self.put_register(at, Slot::Reg, prefixes.register(width.class(sizes), 0));
-            }
-            OperandEncoding::At(slot, num, class) => {
-                self.put_memory(at, slot, RegSpec::of(num, class));
-            }
-            OperandEncoding::Source => self.put_pointer(at, 6, prefixes),
-            OperandEncoding::Destination => self.put_pointer(at, 7, prefixes),
-            // No plan has another one.
-            _ => self.put_u8(at, 0),
-        }
-    }
-
     /// What an operand yields that is none of the letters of reg and rm, at an index: one call, since it is large.
     #[tactic(auto, unfolding(crate::specs::PlanSteps::operand_step))]
     #[inline(never)]
@@ -95,10 +67,13 @@ impl Operands {
             outcome (value_if_ok result self.new) (T.state reader.new)
             ≡ put_encoded at encoding prefixes.now modrm memory self.old (T.state reader.old) }
     {
+        let sizes = prefixes.size_prefixes();
         match encoding {
-            OperandEncoding::I32From16 => self.put_i32(at, read_u16(reader)?.cast_signed() as i32),
-            OperandEncoding::X8 => self.put_u16(at, Slot::ImmInDisp, read_u8(reader)? as u16),
-            OperandEncoding::X16 => self.put_u16(at, Slot::ImmInDisp, read_u16(reader)?),
+            OperandEncoding::I32From16 => {
+                put!(self at ImmI32 ImmediateI32 read_u16(reader)?.cast_signed() as i32)
+            }
+            OperandEncoding::X8 => put!(self at ImmInDisp ImmediateU16 read_u8(reader)? as u16),
+            OperandEncoding::X16 => put!(self at ImmInDisp ImmediateU16 read_u16(reader)?),
             OperandEncoding::Address32 => {
                 let addr = read_u32(reader)?;
                 self.put_at(at, Slot::DispU32, Operand::AbsoluteU32 { addr });
@@ -107,19 +82,51 @@ impl Operands {
                 let addr = read_u64(reader)?;
                 self.put_at(at, Slot::DispU64, Operand::AbsoluteU64 { addr });
             }
-            OperandEncoding::Cr
-            | OperandEncoding::Dr
-            | OperandEncoding::Sr
-            | OperandEncoding::RdInReg
-            | OperandEncoding::Z(_, _, _)
-            | OperandEncoding::A(_)
-            | OperandEncoding::At(_, _, _)
-            | OperandEncoding::Source
-            | OperandEncoding::Destination
-            | OperandEncoding::Jv
-            | OperandEncoding::Offset => self.put_known(at, encoding, prefixes, modrm),
+            OperandEncoding::Cr => self.put_numbered(at, prefixes.reg_number(modrm), CR),
+            OperandEncoding::Dr => self.put_numbered(at, prefixes.reg_number(modrm), DR),
+            OperandEncoding::Sr => self.put_numbered(at, prefixes.reg_number(modrm), S),
+            OperandEncoding::RdInReg => self.put_numbered(at, prefixes.rm_number(modrm), D),
+            OperandEncoding::Z(slot, width, num) => {
+                let num = prefixes.rm_number(ModRM::new(num));
+                self.put_in_slot(at, slot, prefixes.register(width.class(sizes), num));
+            }
+            OperandEncoding::A(width) => {
+                let reg = prefixes.register(width.class(sizes), 0);
+                self.put_at(at, Slot::Reg, Operand::Register { reg });
+            }
+            OperandEncoding::At(slot, num, class) => {
+                self.put_memory(at, slot, RegSpec::of(num, class));
+            }
+            OperandEncoding::Source => self.put_pointer(at, 6, prefixes),
+            OperandEncoding::Destination => self.put_pointer(at, 7, prefixes),
+            // No plan has these.
+            OperandEncoding::Jv | OperandEncoding::Offset => put!(self at ImmU8 ImmediateU8 0),
             encoding => return self.put_last(at, reader, encoding),
         }
         Ok(())
+    }
+
+    /// Another operand, if there is one.
+    pub(crate) fn read_other<T: Reader<u64, u8>>(
+        &mut self,
+        at: Position,
+        reader: &mut T,
+        encoding: OperandEncoding,
+        num: u8,
+        prefixes: &Prefixes,
+        modrm: ModRM,
+    ) -> Result<(), DecodeError>
+        requires { is_field encoding ≡ false }
+        ensures { outcome (value_if_ok result self.new) (T.state reader.new)
+            ≡ other_read at (settled encoding num prefixes.now) prefixes.now modrm self.old
+            (T.state reader.old) }
+    {
+        match at {
+            Position::Nowhere => Ok(()),
+            at => {
+                let encoding = encoding.settled(num, prefixes);
+                self.put_other(at as usize, reader, encoding, prefixes, modrm)
+            }
+        }
     }
 }

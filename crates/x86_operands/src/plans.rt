@@ -97,21 +97,7 @@ pub enum OperandEncoding {
 impl OperandEncoding {
     /// The last operand of a template that has none.
     pub const ABSENT: OperandEncoding = OperandEncoding::ConstantU8(0);
-
-    pub const SIGNED_ONE: OperandEncoding = OperandEncoding::ConstantI8(1);
-
-    pub const UNSIGNED_ONE: OperandEncoding = OperandEncoding::ConstantU8(1);
-
-    pub const THREE: OperandEncoding = OperandEncoding::ConstantU8(3);
-
-    /// The register CL.
-    pub const CL: OperandEncoding = OperandEncoding::Implied(RegisterSlot::Reg, 1, B);
-
-    /// The register CL, after two others.
-    pub const CL_THIRD: OperandEncoding = OperandEncoding::Implied(RegisterSlot::Third, 1, B);
 }
-
-const B: RegisterClass = RegisterClass::B;
 
 /// Why a record refuses. No record refuses for want of bytes or for length.
 #[derive(Clone, Copy, Drop)]

@@ -6,7 +6,7 @@ ghost use Rattle.x86_fields.specs.Steps.{outcome};
 ghost use Rattle.x86_forms.specs.Words.{IsForm};
 ghost use Rattle.x86_operands.specs.Columns.{is_placed, plan_of_row};
 ghost use Rattle.x86_operands.specs.Places.{plan_places};
-ghost use Rattle.x86_operands.specs.PlanSteps.{changed, suffix_opcode, refuse_by, read_opcode, read_plan, read_modrm, refuse_fault};
+ghost use Rattle.x86_operands.specs.PlanSteps.{changed, error_of, suffix_opcode, read_opcode, read_plan, read_modrm, refuse_fault};
 ghost use Rattle.x86_operands.specs.Asks.{uses_suffix};
 ghost use Rattle.x86_operands.specs.Templates.{is_sound_row};
 
@@ -14,9 +14,9 @@ use crate::operand_list::Operands;
 use crate::places::Places;
 use crate::plans::{Fault, ModrmUse, PrefixChange, Verdict};
 use crate::rows::TemplateRow;
-use crate::{Operand, Slot, used_modrm};
+use crate::{Operand, Slot, Template, used_modrm};
 use x86_arch::Reader;
-use x86_fields::{DecodeError, ModRM, Prefixes, next_byte};
+use x86_fields::{DecodeError, ModRM, PrefixedModRM, Prefixes, next_byte};
 use x86_forms::TableRow;
 use x86_opcodes::Opcode;
 
@@ -37,25 +37,23 @@ pub struct Reading {
     pub prefixes: Prefixes,
 }
 
+fn error_of(fault: Fault) -> DecodeError
+    ensures { result ≡ error_of fault }
+{
+    match fault {
+        Fault::BadOpcode => DecodeError::InvalidOpcode,
+        Fault::BadOperand => DecodeError::InvalidOperand,
+        Fault::Incomplete => DecodeError::IncompleteDecoder,
+    }
+}
+
 /// A refusal, if there is a fault, as of a row at its opcode byte.
 pub fn refuse_fault(fault: Option<Fault>) -> Result<(), DecodeError>
     ensures { (s : State ℕ) → outcome result s ≡ refuse_fault fault s }
 {
     match fault {
         None => Ok(()),
-        Some(Fault::BadOpcode) => Err(DecodeError::InvalidOpcode),
-        Some(Fault::BadOperand) => Err(DecodeError::InvalidOperand),
-        Some(Fault::Incomplete) => Err(DecodeError::IncompleteDecoder),
-    }
-}
-
-/// The refusal of a row that refuses.
-fn refuse_by(verdict: Verdict) -> Result<(), DecodeError>
-    ensures { (s : State ℕ) → outcome result s ≡ refuse_by verdict s }
-{
-    match verdict {
-        Verdict::Refuses(fault) => refuse_fault(Some(fault)),
-        _ => Ok(()),
+        Some(fault) => Err(error_of(fault)),
     }
 }
 
@@ -93,7 +91,7 @@ pub fn suffix_opcode(byte: u8) -> Option<Opcode>
     }
 }
 
-/// The row's opcode, or the one that the suffix names.
+/// The row's opcode, or the one that the suffix names; or the row's refusal.
 fn read_opcode<T: Reader<u64, u8>>(
     reader: &mut T,
     verdict: Verdict,
@@ -107,7 +105,8 @@ fn read_opcode<T: Reader<u64, u8>>(
             let byte = next_byte(reader)?;
             suffix_opcode(byte).ok_or(DecodeError::InvalidOpcode)
         }
-        Verdict::Accepts | Verdict::Refuses(_) => Ok(opcode),
+        Verdict::Accepts => Ok(opcode),
+        Verdict::Refuses(fault) => Err(error_of(fault)),
     }
 }
 
@@ -134,7 +133,7 @@ impl TemplateRow {
 
     /// What the row has after its ModRM, written into blank operands, and the places of its parts; `own` is the row in
     /// the opcode map.
-    #[tactic(auto, using(crate::proofs::ReadLemmas::row_is_read, crate::proofs::ReadLemmas::places_are, crate::proofs::TemplateLemmas::sound_template, crate::proofs::TemplateLemmas::fits_placed))]
+    #[tactic(auto, using(crate::proofs::InPlaceLemmas::row_is_read, crate::proofs::TemplateLemmas::sound_template, crate::proofs::TemplateLemmas::sound_parts, crate::proofs::TemplateLemmas::fits_placed))]
     pub fn read_into<T: Reader<u64, u8>>(
         &self,
         own: &TableRow,
@@ -158,17 +157,26 @@ impl TemplateRow {
             (plan_of_row self.now own.now prefixes.old modrm) prefixes.old modrm
             (T.state reader.old) places.old.opcode_end) }
     {
-        operand_list.read_all(
+        let Template {
+            order,
+            last,
+            extra,
+            ..
+        } = self.template;
+        let num = own.form.carried();
+        let fields = PrefixedModRM::of(prefixes, modrm);
+        operand_list.read_first(
             reader,
             &self.template,
-            own,
-            prefixes,
-            modrm,
+            own.opcode,
+            num,
+            &fields,
             &mut places.address_end,
         )?;
+        operand_list.read_other(order.last, reader, last, num, prefixes, modrm)?;
+        operand_list.read_other(order.extra, reader, extra, num, prefixes, modrm)?;
         places.has_suffix = self.has_suffix();
         *opcode = read_opcode(reader, self.verdict, self.opcode(own, modrm))?;
-        refuse_by(self.verdict)?;
         *prefixes = self.change.of(prefixes);
         Ok(())
     }

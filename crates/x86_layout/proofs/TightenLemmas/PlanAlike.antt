@@ -1,6 +1,6 @@
 -- In the memory form a plan goes by reg, and not by mod, rm, and the bits X and B. It refuses, or writes the memory as an
 -- operand.
-use Rattle.std.proofs.Common.{◌≡◌, ℕ, ◌||◌, Bool, if◌then◌else◌, true, false, Option, Some, None, refl, ◌∙◌, arith}
+use Rattle.std.proofs.Common.{◌≡◌, ℕ, ◌||◌, Bool, true, false, Option, Some, None, refl, ◌∙◌, arith}
 use Rattle.std.specs.List.{list_all, list_any}
 use Rattle.std.proofs.lemmas.Bool.{and_parts}
 use Rattle.x86_fields.specs.declared.prefixes.Prefixes.{Prefixes}
@@ -12,7 +12,7 @@ use Rattle.x86_operands.specs.declared.plans.ModrmUse.TheVariants.{EitherForm}
 use Rattle.x86_forms.specs.declared.Form.TheVariants as form
 use Rattle.x86_forms.specs.declared.TableRow.{TableRow}
 use Rattle.x86_forms.specs.Groups.{is_group}
-use Rattle.x86_operands.specs.Plans.{Plan, RowRecord, is_refusal, plan_encodings}
+use Rattle.x86_operands.specs.Plans.{Plan, is_refusal, plan_encodings}
 use Rattle.x86_operands.specs.Forms.{form_plan, form_record}
 use Rattle.x86_decode.specs.Addresses.{is_modrm_encoding}
 use Rattle.x86_layout.specs.Tightening.Tighten.{bits_in}
@@ -26,6 +26,7 @@ use Rattle.x86_operands.proofs.ColumnLemmas.{SamePrefixes, no_rm_names, in_memor
 use Rattle.x86_operands.proofs.TemplateLemmas.{all_same, any_same, row_encodings}
 use Rattle.x86_groups.specs.Groups.{is_f3_alone, group_fault, group_plan, group_record, record_of}
 use Rattle.x86_groups.specs.Rows.{group_rows}
+use Rattle.x86_groups.proofs.AddressLemmas.{By}
 use Rattle.x86_groups.proofs.GroupLemmas as group_facts
 
 -- ---- the bits X and B
@@ -46,9 +47,6 @@ module _ (x b : Bool) (p : Prefixes) (m : ℕ) (mm : is_memory m ≡ true) where
   with_bits f h (Some r) = h r
 
 -- ---- records
-
-abbrev By : Bool → TableRow → Bool → Prefixes → RowRecord
-By strict row group p = if group then group_record strict row p else form_record row p
 
 module _ (strict : Bool) (row : TableRow) (p : Prefixes) (x b : Bool) (m n : ℕ) (mm : is_memory m ≡ true) (nm : is_memory n ≡ true)
     (same : reg_field n ≡ reg_field m) where

@@ -27,12 +27,13 @@ use Rattle.x86_operands.specs.PlanSteps.{pair_at}
 use Rattle.x86_operands.specs.Rows.{form_rows}
 use Rattle.x86_operands.proofs.ColumnLemmas.{chosen_has}
 use Rattle.x86_operands.proofs.TemplateLemmas.{all_same, row_encodings}
+use Rattle.x86_groups.proofs.AddressLemmas.{uses_either_form}
 use Rattle.x86_groups.specs.Groups.{group_modrm, group_plan, group_record, record_of}
 use Rattle.x86_groups.specs.Rows.{group_rows}
 use Rattle.x86_decode.specs.declared.instructions.Instruction.{Instruction}
 use Rattle.x86_decode.specs.Grammar.{IsSentence}
 use Rattle.x86_decode.specs.Instruction.{slot_at}
-use Rattle.x86_layout.proofs.TightenLemmas.Relative.{Row, Seen, Byte, spells, uses_either_form}
+use Rattle.x86_layout.proofs.TightenLemmas.Relative.{Row, Seen, Byte, spells}
 
 -- ---- the operands of such a row
 

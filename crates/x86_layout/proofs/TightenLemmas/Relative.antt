@@ -1,11 +1,10 @@
 -- An encoding with the shortest raw fields is a relative, and none is shorter.
 use Rattle.std.proofs.Common.{◌≡◌, ℕ, ◌+◌, ◌≤◌, Bool, true, false, Some, None, List, [], ◌∷◌, ◌++◌, length, map, refl, sym, ap, subst, ◌∙◌}
 use Rattle.std.proofs.Common.{arith, length-append}
-use Rattle.std.proofs.lemmas.Bool.Decides.{nat_tests}
 use Rattle.std.proofs.lemmas.List.{nil_from_length}
 use Rattle.x86_fields.specs.declared.prefixes.Prefixes.{Prefixes}
 use Rattle.x86_fields.specs.declared.raw.Raw.{Raw}
-use Rattle.x86_fields.specs.ModRM.{reg_field, is_memory}
+use Rattle.x86_fields.specs.ModRM.{reg_field}
 use Rattle.x86_fields.specs.Raw.{has_b, has_x}
 use Rattle.x86_fields.specs.Run.{reading_of}
 use Rattle.x86_fields.specs.Linear.{raw_form, IsSameAddress}
@@ -22,6 +21,7 @@ use Rattle.x86_decode.specs.Head.{escape_bytes, seen_by}
 use Rattle.x86_decode.specs.declared.instructions.Instruction.{Instruction}
 use Rattle.x86_decode.specs.Instruction.{instruction_of}
 use Rattle.x86_groups.specs.Groups.{record_of}
+use Rattle.x86_groups.proofs.AddressLemmas.{uses_either_form}
 use Rattle.x86_decode.specs.Grammar.{allows_lock, places_of, IsSentence}
 use Rattle.x86_decode.proofs.ByteLemmas.{Bytes, bytes_of, bytes_after, bytes_before}
 use Rattle.x86_layout.specs.Parts.Split.{Encoding, record_in}
@@ -36,9 +36,6 @@ use Rattle.x86_layout.proofs.TightenLemmas.Shortest.{shortest_keeps_bits, none_i
 use Rattle.x86_layout.proofs.TightenLemmas.Respell.{Rerowed, rerowed}
 
 -- ---- a memory form
-
-pub uses_either_form : (u : ModrmUse) (modrm : List ℕ) → is_memory (modrm_of u modrm) ≡ true → u ≡ EitherForm
-uses_either_form u modrm h = grind (arith, nat_tests)
 
 one_byte : (u : ModrmUse) (modrm : List ℕ) → u ≡ EitherForm → length modrm ≡ modrm_width u → modrm ≡ modrm_of u modrm ∷ []
 one_byte u modrm e h = grind (arith, nil_from_length)

@@ -20,7 +20,7 @@ returns-in_err-modrm-clause-read g c = λ strict.
     let apart : c.word_after-after.result ≢ Search = search rules in
     let r : c.from_residual.result ≡ Err c.in_err-modrm.field-0.0 = search rules in
     rw r (after_begun _ apart _ c.place_of-inst.result strict row p (c.word_after-after.ensures strict p)
-    (Err c.in_err-modrm.field-0.0) _ c.in_err-modrm.ensures.read
+    (Err c.in_err-modrm.field-0.0) _ c.in_err-modrm.ensures
     ∙ from_here strict row p c.place_of-inst.ensures c.offset.ensures.count c.offset.ensures.unmoved)
 
 pub returns-in_err-read_operands-in-Some-clause-read : goal.returns-in_err-read_operands-in-Some-clause-read
@@ -30,7 +30,7 @@ returns-in_err-read_operands-in-Some-clause-read g c = λ strict.
     let apart : c.word_after-after.result ≢ Search = search rules in
     let r : c.from_residual-in_err-read_operands-in-Some.result ≡ Err c.in_err-read_operands-in-Some.field-0.0 = search rules in
     rw r (c.in_err-read_operands-in-Some.ensures.read strict
-    ∙ after_begun _ apart _ c.place_of-inst.result strict row p (c.word_after-after.ensures strict p) (Ok c.in_ok-modrm.modrm) _ c.in_ok-modrm.ensures.read
+    ∙ after_begun _ apart _ c.place_of-inst.result strict row p (c.word_after-after.ensures strict p) (Ok c.in_ok-modrm.modrm) _ c.in_ok-modrm.ensures
     ∙ from_here strict row p c.place_of-inst.ensures c.offset.ensures.count c.offset.ensures.unmoved)
 
 pub returns-in_ok-read_operands-in-Some-clause-read : goal.returns-in_ok-read_operands-in-Some-clause-read
@@ -39,7 +39,7 @@ returns-in_ok-read_operands-in-Some-clause-read g c = λ strict.
     let row = c.args.found.now.row in
     let apart : c.word_after-after.result ≢ Search = search rules in
     c.in_ok-read_operands-in-Some.ensures.read strict
-    ∙ after_begun _ apart _ c.place_of-inst.result strict row p (c.word_after-after.ensures strict p) (Ok c.in_ok-modrm.modrm) _ c.in_ok-modrm.ensures.read
+    ∙ after_begun _ apart _ c.place_of-inst.result strict row p (c.word_after-after.ensures strict p) (Ok c.in_ok-modrm.modrm) _ c.in_ok-modrm.ensures
     ∙ from_here strict row p c.place_of-inst.ensures c.offset.ensures.count c.offset.ensures.unmoved
 
 pub returns-in-None-clause-read : goal.returns-in-None-clause-read
@@ -50,5 +50,5 @@ returns-in-None-clause-read g c = λ strict.
     let apart : c.word_after-after.result ≢ Search = search rules in
     ap (λ o. (some_row o >>= λ r. plan_placed c.place_of-inst.result (plan_at strict r p m) p m) (g.T.Reader.state c.read_modrm.new.reader))
     c.args.found.now.of_word
-    ∙ after_begun _ apart _ c.place_of-inst.result strict row p (c.word_after-after.ensures strict p) (Ok c.in_ok-modrm.modrm) _ c.in_ok-modrm.ensures.read
+    ∙ after_begun _ apart _ c.place_of-inst.result strict row p (c.word_after-after.ensures strict p) (Ok c.in_ok-modrm.modrm) _ c.in_ok-modrm.ensures
     ∙ from_here strict row p c.place_of-inst.ensures c.offset.ensures.count c.offset.ensures.unmoved

@@ -20,4 +20,4 @@ bounds-row-head c =
 
 pub returns-then-has : goal.returns-then-has
 returns-then-has c =
-    plain_at c.args.found.now c.args.modrm _ _ (sym c.if-not-is_direct.ensures) (sym c.if-has.ensures) c.requires
+    plain_at c.args.found.now c.args.modrm _ _ (sym c.if-not-is_direct.ensures) (sym c.if-has.ensures)

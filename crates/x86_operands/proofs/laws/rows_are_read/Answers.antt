@@ -1,4 +1,4 @@
-use Rattle.x86_operands.proofs.RowLemmas.{row_wherever, row_refuses}
+use Rattle.x86_operands.proofs.RecordLemmas.{row_wherever, row_refuses}
 use Rattle.x86_operands.proofs.laws.rows_are_read.Goals as goal
 
 pub returns-clause-wherever : goal.returns-clause-wherever
