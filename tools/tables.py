@@ -15,7 +15,8 @@ The lists, which people edit:
     crates/x86_objdump/specs/Text/Entries.antt    how `show` writes an operation, a line for each that isn't written as its name
     tools/commands.txt                         the commands, a line each: its words, and after two blanks what it does
 
-tools/form_rows.py has the tables of rows, and tools/form_cells.py which of them form, mod and reg alone choose. The script writes the lines of data alone:
+tools/form_rows.py has the tables of rows, tools/form_cells.py which of them form, mod and reg alone choose, and tools/byte_rows.py the rows of opcode
+bytes without a legacy prefix. The script writes the lines of data alone:
 imports, heads of tables, functions and comments of the files are edited by hand.
 
 Nothing rests on this script. What it writes is checked like all other code: that the constants have the numbers and
@@ -27,6 +28,7 @@ import re
 import sys
 import textwrap
 
+import byte_rows
 import form_cells
 import form_rows
 from sources import TOP, write
@@ -249,6 +251,10 @@ def group_tables_rt(text):
     return rows_rt(text, form_rows.GROUPS, more, {"CELLS": len(more["CELLS"]) // 18})
 
 
+def byte_tables_rt(text):
+    return filled(text, {of.upper(): byte_rows.byte_rows(rows()[of], ordinals(), numbers()) for of in MAPS[:2]})
+
+
 WRITTEN = {
     OPCODES / "specs" / "Names.antt": names_antt,
     OPCODES / "src" / "names.rt": names_rt,
@@ -257,6 +263,7 @@ WRITTEN = {
     FORMS / "src" / "tables.rt": tables_rt,
     OPERANDS / "src" / "tables.rt": plain_tables_rt,
     GROUPS / "src" / "tables.rt": group_tables_rt,
+    GROUPS / "src" / "byte_tables.rt": byte_tables_rt,
     TEXT / "src" / "mnemonics.rt": lambda text: filled(text, {"MNEMONICS": name_lines(16, names())}),
     TEXT / "src" / "registers.rt": lambda text: filled(text, {of.upper(): name_lines(8, texts) for of, texts in registers()}),
     TEXT / "src" / "sizes.rt": sizes_rt,

@@ -1,25 +1,35 @@
 //! The five calls that decode, and the short walk over a slice.
 
-ghost use Rattle.std.specs.Prelude.{◌≡◌, ℕ, Bool, List, take, true, false, IfOk, OnErr};
+ghost use Rattle.std.specs.Prelude.{◌≡◌, ◌≢◌, ℕ, Bool, List, Ok, take, true, false, IfOk, OnErr, OnOk};
 ghost use Rattle.std.proofs.Common.{rules};
 ghost use Rattle.std.specs.Cmp.{partial_order_from_own_ties};
 ghost use Rattle.std.specs.Cmp.Rules.{comparing};
 ghost use Rattle.std.specs.Ordering.{on, bool_cmp, flip_args, as_partial_cmp};
+ghost use Rattle.x86_fields.specs.ModRM.{is_memory};
 ghost use Rattle.x86_fields.specs.Prefixes.{lock};
+ghost use Rattle.x86_fields.specs.Steps.{next_byte, outcome};
+ghost use Rattle.x86_forms.specs.declared.TableRow.{TableRow};
 ghost use Rattle.x86_forms.specs.Words.{rows_of, packed};
+ghost use Rattle.x86_operands.specs.OperandList.{no_operands};
+ghost use Rattle.x86_operands.specs.Plans.{RowRecord};
+ghost use Rattle.x86_operands.specs.PlanSteps.{read_modrm};
+ghost use Rattle.x86_groups.specs.Bytes.{IsByteRow, IsListed, after_byte};
+ghost use Rattle.x86_groups.specs.Heads.{Continues};
 ghost use Rattle.x86_decode.specs.Decoder.{is_strict};
 ghost use Rattle.x86_decode.specs.Answer.{answer_of, count_of};
 ghost use Rattle.x86_decode.specs.Answers.{Answers, HasMoved};
 ghost use Rattle.x86_decode.specs.Instruction.{holding, invalid_instruction};
-ghost use Rattle.x86_decode.specs.Walk.{unread_step, walk_placed};
+ghost use Rattle.x86_decode.specs.Walk.{placed_in, row_placed, walk_placed};
 
 use crate::instructions::Instruction;
-use crate::rows::{Unread, read_row};
+use crate::rows::read_operands;
 use crate::walk::{walk, walk_into, walk_rarely};
 use std::cmp::Ordering;
 use x86_arch::{ReadIf, Reader, U8Reader};
-use x86_fields::DecodeError;
-use x86_forms::{Column, Map, Packed, Words, word_row};
+use x86_fields::{DecodeError, ModRM, next_byte};
+use x86_forms::{Packed, Words};
+use x86_groups::{ByteRow, Choice, Next, byte_row, escaped_row, sure_byte_row};
+use x86_operands::place_of;
 
 /// How instructions are read. By default the fences LFENCE, MFENCE and SFENCE are read whatever rm is; a strict
 /// decoder refuses them where rm isn't 0.
@@ -36,17 +46,63 @@ fn make_invalid(inst: &mut Instruction)
     *inst = Instruction::INVALID;
 }
 
-/// The encoding where it has no legacy prefix, its opcode byte follows nothing or 0F, and its row is read at once; else the
-/// row, or an error. An error says only that this walk can't go on: a legacy prefix and the beginning of a longer escape
-/// have no row.
+/// The ModRM byte that follows.
 #[inline(always)]
-fn read_plain<T: ReadIf>(
+fn next_modrm<T: Reader<u64, u8>>(reader: &mut T) -> Result<ModRM, DecodeError>
+    ensures { outcome result (T.state reader.new) ≡ next_byte (T.state reader.old) }
+{
+    Ok(ModRM::new(next_byte(reader)?))
+}
+
+/// ModRM where one follows, else C0. What is common has an arm of its own: so it isn't tested again.
+#[inline(always)]
+fn read_next<T: Reader<u64, u8>>(next: Next, reader: &mut T) -> Result<ModRM, DecodeError>
+    requires { next ≢ Next.Chosen Choice.Search }
+    ensures read { (r : RowRecord) → Continues (after_byte next) r →
+        outcome result (T.state reader.new) ≡ read_modrm r.modrm (T.state reader.old) }
+    ensures absent { next ≡ Next.Nothing → IfOk result (λ modrm. is_memory modrm ≡ false) }
+{
+    match next {
+        Next::Either => next_modrm(reader),
+        Next::Nothing => Ok(ModRM::absent()),
+        Next::Chosen(_) => next_modrm(reader),
+    }
+}
+
+/// What a byte's row has after it, where it is read at once. An error says only that this walk can't go on.
+#[inline(always)]
+fn read_byte_row<T: Reader<u64, u8>>(
+    row: &'static ByteRow,
     reader: &mut T,
     inst: &mut Instruction,
-) -> Result<Option<Unread>, DecodeError>
+) -> Result<(), DecodeError>
+    requires listed { IsListed row.now }
+    requires blank { inst.old.operand_list ≡ no_operands }
+    requires no_suffix { inst.old.places.has_suffix ≡ false }
+    ensures read { (strict : Bool) (found : TableRow) → IsByteRow row.now found →
+        OnOk result (outcome (Ok (placed_in inst.new)) (T.state reader.new)
+        ≡ row_placed strict found inst.old.prefixes (T.state reader.old)) }
+    ensures has_row { OnOk result (row.now.next ≢ Next.Chosen Choice.Search) }
+    ensures same_prefixes { inst.new.prefixes ≡ inst.old.prefixes }
+{
+    if matches!(row.next, Next::Chosen(Choice::Search)) {
+        return Err(DecodeError::InvalidOpcode);
+    }
+    inst.places.opcode_end = place_of(reader.offset());
+    let modrm = read_next(row.next, reader)?;
+    match sure_byte_row(row, modrm) {
+        Some(sure) => read_operands(sure, modrm, reader, inst),
+        None => Err(DecodeError::InvalidOpcode),
+    }
+}
+
+/// The encoding where it has no legacy prefix, its opcode byte follows nothing or 0F, and its row is read at once. An
+/// error says only that this walk can't go on: a legacy prefix and the beginning of a longer escape have no row.
+#[inline(always)]
+fn read_plain<T: ReadIf>(reader: &mut T, inst: &mut Instruction) -> Result<(), DecodeError>
     requires { inst.old ≡ invalid_instruction }
-    ensures read { IfOk result (λ unread. (strict : Bool) →
-        unread_step strict inst.new unread (T.state reader.new)
+    ensures read { OnOk result ((strict : Bool) →
+        outcome (Ok (placed_in inst.new)) (T.state reader.new)
         ≡ walk_placed (rows_of packed) strict (T.state reader.old)) }
     ensures no_lock { lock inst.new.prefixes ≡ false }
 {
@@ -55,15 +111,12 @@ fn read_plain<T: ReadIf>(
     let is_rex = inst.prefixes.set_rex(first);
     let byte = reader.next_if(is_rex, first)?;
     let escaped = byte == 0x0f;
-    let word = if escaped {
-        Packed.word(Map::Of, Column::Plain, reader.next()?)
+    let row = if escaped {
+        escaped_row(reader.next()?)
     } else {
-        Packed.word(Map::One, Column::Plain, byte)
+        byte_row(byte)
     };
-    match word_row(word) {
-        None => Err(DecodeError::InvalidOpcode),
-        Some(found) => read_row(&found, reader, inst),
-    }
+    read_byte_row(row, reader, inst)
 }
 
 /// The walk over the first fifteen bytes of an input, or over all where there are fewer, into a blank instruction.
@@ -77,7 +130,7 @@ fn walk_beginning(strict: bool, within: &[u8], inst: &mut Instruction) -> Result
         holding inst.new result ≡ answer_of strict bytes }
 {
     let mut reader = U8Reader::new(within);
-    if let Ok(None) = read_plain(&mut reader, inst) {
+    if let Ok(()) = read_plain(&mut reader, inst) {
         inst.length = reader.offset();
         return Ok(());
     }

@@ -7,7 +7,8 @@ ghost use Rattle.x86_operands.specs.Places.{plan_placed};
 ghost use Rattle.x86_operands.specs.Plans.{RowRecord};
 ghost use Rattle.x86_operands.specs.PlanSteps.{read_modrm};
 ghost use Rattle.x86_operands.specs.declared.heads.After.TheVariants as After;
-ghost use Rattle.x86_groups.specs.Heads.{Continues, IsSure};
+ghost use Rattle.x86_forms.specs.declared.TableRow.{TableRow};
+ghost use Rattle.x86_groups.specs.Heads.{Continues, IsReadAt, IsSure};
 ghost use Rattle.x86_decode.specs.Walk.{placed_in, plan_at, row_placed, unread_step};
 
 use crate::instructions::Instruction;
@@ -41,20 +42,19 @@ fn read_modrm<T: Reader<u64, u8>>(after: After, reader: &mut T) -> Result<ModRM,
 
 /// The operands of a row that is read at once.
 #[inline(always)]
-fn read_operands<T: Reader<u64, u8>>(
-    found: &WordRow,
+pub fn read_operands<T: Reader<u64, u8>>(
     sure: SureRow<'_>,
     modrm: ModRM,
     reader: &mut T,
     inst: &mut Instruction,
 ) -> Result<(), DecodeError>
-    requires sure { IsSure found.now modrm sure }
+    requires at_once { IsReadAt modrm sure }
     requires blank { inst.old.operand_list ≡ no_operands }
     requires no_suffix { inst.old.places.has_suffix ≡ false }
-    ensures read { (strict : Bool) →
+    ensures read { (strict : Bool) (found : TableRow) → IsSure found modrm sure.entry →
         outcome (value_if_ok result (placed_in inst.new)) (T.state reader.new)
         ≡ plan_placed inst.old.places.opcode_end
-        (plan_at strict found.now.row inst.old.prefixes modrm) inst.old.prefixes modrm
+        (plan_at strict found inst.old.prefixes modrm) inst.old.prefixes modrm
         (T.state reader.old) }
     ensures same_prefixes { inst.new.prefixes ≡ inst.old.prefixes }
 {
@@ -63,7 +63,7 @@ fn read_operands<T: Reader<u64, u8>>(
         reader,
         sure.template,
         sure.opcode,
-        found.number,
+        sure.register,
         &inst.prefixes,
         modrm,
         &mut inst.places.address_end,
@@ -97,7 +97,7 @@ pub fn read_row<T: Reader<u64, u8>>(
     let modrm = read_modrm(after, reader)?;
     match sure_row(found, modrm) {
         Some(sure) => {
-            read_operands(found, sure, modrm, reader, inst)?;
+            read_operands(sure, modrm, reader, inst)?;
             Ok(None)
         }
         None => Ok(Some(Unread {

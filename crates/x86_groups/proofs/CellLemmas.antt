@@ -8,7 +8,6 @@ use Rattle.std.proofs.lemmas.List.Elements.{All-get_or}
 use Rattle.std.proofs.lemmas.List.Sums.{AllPass-from_list_all}
 use Rattle.x86_groups.specs.Vocabulary.{Form, Names, Prefixes, TableRow, is_memory, reg_field}
 use Rattle.x86_forms.specs.declared.Form.TheVariants as form
-use Rattle.x86_forms.specs.declared.words.WordRow.{WordRow}
 use Rattle.x86_forms.specs.Groups.{is_group}
 use Rattle.x86_forms.specs.Ordinals.{first_ordinal_of, ordinal_of}
 use Rattle.x86_forms.specs.Words.{carried}
@@ -22,9 +21,9 @@ use Rattle.x86_operands.proofs.HeadLemmas.{if_true, or_true}
 use Rattle.x86_operands.proofs.SureLemmas.{after, chosen, has_free_sizes, is_read, is_sure, may_be, placed_by, plan_is, sizes_by, sure_at}
 use Rattle.x86_groups.specs.declared.cells.Cell.{Cell}
 use Rattle.x86_groups.specs.declared.tables.TheConstants.{CELLS, CELLS_AT, ROWS, SPANS}
+use Rattle.x86_groups.specs.Bytes.{IsCelled}
 use Rattle.x86_groups.specs.Groups.{group_plan, group_record, record_of}
 use Rattle.x86_groups.specs.Heads.{operation_number}
-use Rattle.x86_groups.specs.Rows.{group_rows}
 use Rattle.x86_groups.proofs.HeadLemmas.{span_at}
 
 -- ---- the cells of a group by its rows
@@ -158,42 +157,42 @@ in_table f n d low =
     let short : n < (span_of f).1 - first_of f = subst (λ k. n < k) taken low in
     get_or-take ((span_of f).1 - first_of f) (drop (first_of f) ROWS.now) n d short ∙ get_or-drop (first_of f) ROWS.now n d
 
-module _ (found : WordRow) (m : ℕ) (group : is_group found.row.form ≡ true) (searched : is_searched found.row.form ≡ false) where
+module _ (row : TableRow) (register m : ℕ) (group : is_group row.form ≡ true) (searched : is_searched row.form ≡ false) where
   abbrev f : Form
-  f = found.row.form
+  f = row.form
 
   celled : is_celled f ≡ true
   celled = rw (group, searched) refl
 
   -- a row of this number, if it has an operation
   abbrev SureRowOf : ℕ → TemplateRow → Type 0
-  SureRowOf number row = (operation_number number row.names m == 0) ≡ false →
-      (is_read_at row.template m ≡ true)
-      × ((strict : Bool) (p : Prefixes) → template_plan row.template found.number (named (operation_number number row.names m)) p m ≡
-      group_plan found.row p m strict)
+  SureRowOf number here = (operation_number number here.names m == 0) ≡ false →
+      (is_read_at here.template m ≡ true)
+      × ((strict : Bool) (p : Prefixes) → template_plan here.template register (named (operation_number number here.names m)) p m ≡
+      group_plan row p m strict)
 
   from_sure : (k n : ℕ) (d : TemplateRow) → sure_at (rows_of f) (is_memory m) (reg_field m) ≡ k → k ≡ suc n →
       SureRowOf (number_in (rows_of f) n (reg_field m)) (get_or ROWS.now (first_of f + n) d)
   unfolding group_plan
   from_sure k n d e is =
       let at = is_at m d (rows_of f) n (e ∙ is) in
-      let row : TemplateRow = get_or (rows_of f) n d in
+      let here : TemplateRow = get_or (rows_of f) n d in
       let number = number_in (rows_of f) n (reg_field m) in
-      let fits : fits_cell row ≡ true = or_true (is_sure row) (fits_cell row)
-      (All-get_or (λ row. may_fit row ≡ true) (rows_of f) n d at.inside
+      let fits : fits_cell here ≡ true = or_true (is_sure here) (fits_cell here)
+      (All-get_or (λ r. may_fit r ≡ true) (rows_of f) n d at.inside
       (AllPass-from_list_all may_fit (rows_of f) (or_true (is_celled f) _ (rows_fit f) celled))) at.sure in
-      let parts = and_parts (is_named_row row.names) _ fits in
-      let free = and_parts (has_free_sizes row.template) (not row.template.of_opcode) parts.1 in
+      let parts = and_parts (is_named_row here.names) _ fits in
+      let free = and_parts (has_free_sizes here.template) (not here.template.of_opcode) parts.1 in
       subst (SureRowOf number) (in_table f n d at.inside) (λ some.
-      let name = has_name row.names m parts.0 (subst (λ k. (operation_number k row.names m == 0) ≡ false) at.number some) in (
-        is_read row m at.sure at.placed,
+      let name = has_name here.names m parts.0 (subst (λ k. (operation_number k here.names m == 0) ≡ false) at.number some) in (
+        is_read here m at.sure at.placed,
         λ strict p.
-            plan_is row found.row found.number (named (operation_number number row.names m)) p m at.sure
-            (named_by row.names found.row m parts.0 ∙ ap (λ k. named (operation_number k row.names m)) (sym at.number))
-            (no_number row.template.of_opcode found.number (carried f) free.1)
-            (sizes_by row.template m (named (operation_number number row.names m)) found.row.opcode p free.0)
-            ∙ ap (λ first. plan_of_row first found.row p m)
-            (sym (chosen found.row strict p m (rows_of f) n d (e ∙ is) name) ∙ ap (λ rows. choose rows found.row strict p m) (span_at f (0, 0)).rows),
+            plan_is here row register (named (operation_number number here.names m)) p m at.sure
+            (named_by here.names row m parts.0 ∙ ap (λ k. named (operation_number k here.names m)) (sym at.number))
+            (no_number here.template.of_opcode register (carried f) free.1)
+            (sizes_by here.template m (named (operation_number number here.names m)) row.opcode p free.0)
+            ∙ ap (λ first. plan_of_row first row p m)
+            (sym (chosen row strict p m (rows_of f) n d (e ∙ is) name) ∙ ap (λ rows. choose rows row strict p m) (span_at f (0, 0)).rows),
       ))
 
   abbrev SureCell : Cell → TemplateRow → Type 0
@@ -203,15 +202,15 @@ module _ (found : WordRow) (m : ℕ) (group : is_group found.row.form ≡ true) 
   from_cell zero d e h = absurd (true≢false h)
   from_cell (suc n) d e h = from_sure (suc n) n d e refl h
 
-  plan_same : (strict : Bool) (p : Prefixes) → group_plan found.row p m strict ≡ (record_of strict found.row p).plan m
+  plan_same : (strict : Bool) (p : Prefixes) → group_plan row p m strict ≡ (record_of strict row p).plan m
   unfolding group_record
   plan_same strict p = rw group refl
 
   pub cell_is_sure : (cell : Cell) (d : TemplateRow) → cell ≡ cell_by (rows_of f) (first_of f) (is_memory m) (reg_field m) →
       (operation_number cell.number (get_or ROWS.now cell.row d).names m == 0) ≡ false →
       (is_read_at (get_or ROWS.now cell.row d).template m ≡ true)
-      × ((strict : Bool) (p : Prefixes) → template_plan (get_or ROWS.now cell.row d).template found.number
-      (named (operation_number cell.number (get_or ROWS.now cell.row d).names m)) p m ≡ (record_of strict found.row p).plan m)
+      × ((strict : Bool) (p : Prefixes) → template_plan (get_or ROWS.now cell.row d).template register
+      (named (operation_number cell.number (get_or ROWS.now cell.row d).names m)) p m ≡ (record_of strict row p).plan m)
   cell_is_sure cell d e h =
       let both = subst (λ cell. SureCell cell d) (sym e) (from_cell (sure_at (rows_of f) (is_memory m) (reg_field m)) d refl) h in
       (both.0, λ strict p. both.1 strict p ∙ plan_same strict p)
@@ -228,16 +227,16 @@ has_number (form.Zv_Ivq_R n) h = absurd cc
 has_number (form.Zv_B n) h = absurd cc
 has_number _ h = (ltb-true _ _ refl, refl)
 
-pub number_below : (found : WordRow) → is_group found.row.form ≡ true → found.form_number < length CELLS_AT.now
-number_below found h = subst (λ n. n < length CELLS_AT.now) (sym found.form_number_is) (has_number found.row.form h).0
+module _ (n : ℕ) (f : Form) (is : IsCelled n f) where
+  pub number_below : n < length CELLS_AT.now
+  number_below = subst (λ n. n < length CELLS_AT.now) (sym is.numbered) (has_number f is.group).0
 
-plus_one : (n : ℕ) → 1 + n ≡ n + 1
-plus_one n = omega arith
+  plus_one : (n : ℕ) → 1 + n ≡ n + 1
+  plus_one n = omega arith
 
-pub cells_at : (found : WordRow) (d : ℕ) → is_group found.row.form ≡ true →
-    get_or CELLS_AT.now found.form_number d ≡ get_or CELLS_AT.now (first_ordinal_of found.row.form + 1) d
-cells_at found d h = ap (λ n. get_or CELLS_AT.now n d)
-    (found.form_number_is ∙ ap (λ n. 1 + n) (has_number found.row.form h).1 ∙ plus_one (first_ordinal_of found.row.form))
+  cells_at : (d : ℕ) → get_or CELLS_AT.now n d ≡ get_or CELLS_AT.now (first_ordinal_of f + 1) 0
+  cells_at d = get_or_default CELLS_AT.now n d 0 number_below
+      ∙ ap (λ n. get_or CELLS_AT.now n 0) (is.numbered ∙ ap (λ n. 1 + n) (has_number f is.group).1 ∙ plus_one (first_ordinal_of f))
 
 cells_inside : list_all (λ n. nat_lt n (length CELLS.now)) CELLS_AT.now ≡ true
 cells_inside = refl
@@ -262,20 +261,12 @@ row_below n k z d below low =
     ltb-true _ _ (All-get_or (λ cell. nat_lt cell.row (length ROWS.now) ≡ true) cells k d inside
     (AllPass-from_list_all (λ cell. nat_lt cell.row (length ROWS.now)) cells each))
 
--- the cell at a word's row and a ModRM byte
-pub cell_at : (found : WordRow) (m at : ℕ) (z : List Cell) (c : Cell) (d : ℕ) → is_group found.row.form ≡ true →
-    is_searched found.row.form ≡ false → reg_field m < 8 → at ≡ (if is_memory m then reg_field m else reg_field m + 8) →
-    get_or (get_or CELLS.now (get_or CELLS_AT.now found.form_number d) z) at c ≡ cell_by (rows_of found.row.form) (first_of found.row.form)
-    (is_memory m) (reg_field m)
-cell_at found m at z c d group searched low place =
-    let celled : is_celled found.row.form ≡ true = rw (group, searched) refl in
-    let index : get_or CELLS_AT.now found.form_number d ≡ get_or CELLS_AT.now (first_ordinal_of found.row.form + 1) 0 =
-    cells_at found d group ∙ same_default (first_ordinal_of found.row.form + 1) d
-    (subst (λ n. n < length CELLS_AT.now) (found.form_number_is ∙ ap (λ n. 1 + n) (has_number found.row.form group).1
-    ∙ plus_one (first_ordinal_of found.row.form)) (number_below found group)) in
-    ap (λ n. get_or (get_or CELLS.now n z) at c) index
-    ∙ ap (λ n. get_or (cells_of found.row.form z) n c) place
-    ∙ cell_is found.row.form (reg_field m) (is_memory m) z c celled low
-  where
-    same_default : (n d : ℕ) → n < length CELLS_AT.now → get_or CELLS_AT.now n d ≡ get_or CELLS_AT.now n 0
-    same_default n d low = get_or_default CELLS_AT.now n d 0 low
+-- the cell of a group at a ModRM byte
+pub cell_at : (n : ℕ) (f : Form) (m at : ℕ) (z : List Cell) (c : Cell) (d : ℕ) → IsCelled n f → reg_field m < 8 →
+    at ≡ (if is_memory m then reg_field m else reg_field m + 8) →
+    get_or (get_or CELLS.now (get_or CELLS_AT.now n d) z) at c ≡ cell_by (rows_of f) (first_of f) (is_memory m) (reg_field m)
+cell_at n f m at z c d is low place =
+    let celled : is_celled f ≡ true = rw (is.group, is.celled) refl in
+    ap (λ n. get_or (get_or CELLS.now n z) at c) (cells_at n f is d)
+    ∙ ap (λ n. get_or (cells_of f z) n c) place
+    ∙ cell_is f (reg_field m) (is_memory m) z c celled low

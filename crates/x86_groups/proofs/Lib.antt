@@ -3,5 +3,6 @@ pub mod ChoiceLemmas
 pub mod GroupLemmas
 pub mod HeadLemmas
 pub mod CellLemmas
+pub mod ByteLemmas
 pub mod KnownLemmas
 pub mod AddressLemmas

@@ -1,11 +1,10 @@
 -- How a row goes on after its opcode byte, and a row that is read at once at a ModRM byte.
-use Rattle.std.specs.Prelude.{ℕ, Bool, true, None, ◌≡◌, ◌==◌, if◌then◌else◌, ⊤}
-use Rattle.x86_groups.specs.Vocabulary.{After, EitherForm, Names, Prefixes, rm_field}
+use Rattle.std.specs.Prelude.{ℕ, ◌<◌, Bool, true, None, ◌≡◌, ◌==◌, if◌then◌else◌, ⊤}
+use Rattle.x86_groups.specs.Vocabulary.{After, EitherForm, Names, Prefixes, TableRow, rm_field}
 use Rattle.x86_groups.specs.declared.rows.SureRow.{SureRow}
 use Rattle.x86_operands.specs.declared.plans.ModrmUse.TheVariants.{Absent}
 use Rattle.x86_operands.specs.declared.rows.Names.TheVariants.{ByRm}
 use Rattle.x86_operands.specs.Columns.{name_at}
-use Rattle.x86_forms.specs.declared.words.WordRow.{WordRow}
 use Rattle.x86_operands.specs.Plans.{RowRecord, template_plan}
 use Rattle.x86_operands.specs.Templates.{is_read_at}
 use Rattle.x86_groups.specs.Groups.{record_of}
@@ -24,7 +23,12 @@ number_by_rm names m = 0
 abbrev pub operation_number : ℕ → Names → ℕ → ℕ
 operation_number number names m = if number == 0 then number_by_rm names m else number
 
--- Its template says the plan of the word's row at this ModRM byte.
-pub record IsSure (found : WordRow) (m : ℕ) (u : SureRow) : Type 0 where
+-- a row that is read at once at this ModRM byte
+pub record IsReadAt (m : ℕ) (u : SureRow) : Type 0 where
+  pub small : u.register < 8
   pub fits : is_read_at u.template.now m ≡ true
-  pub plan : (strict : Bool) (p : Prefixes) → template_plan u.template.now found.number u.opcode p m ≡ (record_of strict found.row p).plan m
+
+-- Its template says the plan of the row in the opcode map at this ModRM byte.
+pub record IsSure (row : TableRow) (m : ℕ) (u : SureRow) : Type 0 where
+  pub at_once : IsReadAt m u
+  pub plan : (strict : Bool) (p : Prefixes) → template_plan u.template.now u.register u.opcode p m ≡ (record_of strict row p).plan m

@@ -2,4 +2,5 @@
 pub mod Vocabulary
 pub mod Rows
 pub mod Groups
+pub mod Bytes
 pub mod Heads

@@ -2,14 +2,14 @@
 
 ghost use Rattle.std.specs.Prelude.{◌≡◌, ◌<◌, ◌+◌, if◌then◌else◌, true, false, IfSome};
 ghost use Rattle.x86_fields.specs.ModRM.{is_memory, reg_field};
-ghost use Rattle.x86_forms.specs.Groups.{is_group};
-ghost use Rattle.x86_operands.specs.Forms.{is_searched};
+ghost use Rattle.x86_forms.specs.declared.Form.{Form};
+ghost use Rattle.x86_forms.specs.declared.TableRow.{TableRow};
+ghost use Rattle.x86_groups.specs.Bytes.{IsCelled};
 ghost use Rattle.x86_groups.specs.Heads.{IsSure, operation_number};
 
 use crate::rows::SureRow;
 use crate::tables::{CELLS, CELLS_AT, ROWS};
 use x86_fields::ModRM;
-use x86_forms::WordRow;
 use x86_opcodes::Opcode;
 use x86_operands::rows::{Names, TemplateRow};
 
@@ -66,12 +66,12 @@ fn cell_index(modrm: ModRM) -> usize
 /// The operation and the operands of a group's row at a ModRM byte, where mod and reg alone choose the row, and it has an
 /// operation there.
 #[inline(always)]
-pub(crate) fn cell_row(found: &WordRow, modrm: ModRM) -> Option<SureRow<'static>>
-    requires group { is_group found.now.row.form ≡ true }
-    requires celled { is_searched found.now.row.form ≡ false }
-    ensures { IfSome result (IsSure found.now modrm) }
+pub(crate) fn cell_row(form_number: usize, modrm: ModRM) -> Option<SureRow<'static>>
+    requires { (form : Form) × IsCelled form_number form }
+    ensures { (found : TableRow) → IsCelled form_number found.form →
+        IfSome result (IsSure found modrm) }
 {
-    let group = CELLS_AT[found.form_number];
+    let group = CELLS_AT[form_number];
     let cell = &CELLS[group as usize][cell_index(modrm)];
     let row = &ROWS[cell.row as usize];
     let number = cell.operation_number(row, modrm);
@@ -80,6 +80,7 @@ pub(crate) fn cell_row(found: &WordRow, modrm: ModRM) -> Option<SureRow<'static>
     }
     Some(SureRow {
         opcode: Opcode::from_number(number as u64).unwrap_or(Opcode::Invalid),
+        register: 0,
         template: &row.template,
     })
 }

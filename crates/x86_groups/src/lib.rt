@@ -14,11 +14,14 @@ ghost use Rattle.x86_operands.specs.OperandList.{value_if_ok, no_operands, readi
 ghost use Rattle.x86_forms.specs.Words.{IsForm};
 ghost use Rattle.x86_groups.specs.Groups.{group_record, record_of};
 
+mod byte_tables;
+mod bytes;
 mod cells;
 pub mod laws;
 mod rows;
 mod tables;
 
+pub use bytes::{ByteRow, Choice, Next, byte_row, escaped_row, sure_byte_row};
 use rows::{chosen_row, row_fault, row_modrm};
 pub use rows::{SureRow, group_ask, row_ask, row_at, sure_row, word_after};
 use x86_arch::Reader;

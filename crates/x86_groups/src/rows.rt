@@ -23,10 +23,12 @@ use x86_operands::rows::{TemplateRow, choose};
 use x86_operands::{After, Ask, RecordAt, Template, form_modrm, plain_row, used_modrm};
 use x86_regs::Segment;
 
-/// A row that is read at once: the operation, and its operands at a ModRM byte.
+/// A row that is read at once: the operation, the number of the opcode byte's register, and its operands at a ModRM
+/// byte.
 #[derive(Clone, Copy, Drop)]
 pub struct SureRow<'a> {
     pub opcode: Opcode,
+    pub register: u8,
     pub template: &'a Template,
 }
 
@@ -44,15 +46,16 @@ pub fn word_after(found: &WordRow) -> After
 #[inline(always)]
 #[tactic(auto, using(crate::proofs::HeadLemmas::plain_is))]
 pub fn sure_row(found: &WordRow, modrm: ModRM) -> Option<SureRow<'static>>
-    ensures { IfSome result (IsSure found.now modrm) }
+    ensures { IfSome result (IsSure found.now.row modrm) }
 {
     match x86_operands::word_after(found) {
         After::Search => None,
-        After::Cells => cell_row(found, modrm),
+        After::Cells => cell_row(found.form_number, modrm),
         _ => {
             let template = plain_row(found, modrm)?;
             Some(SureRow {
                 opcode: found.row.opcode,
+                register: found.number,
                 template,
             })
         }

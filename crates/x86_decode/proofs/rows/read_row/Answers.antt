@@ -2,6 +2,7 @@ use Rattle.std.proofs.Common.{rules, ◌≡◌, ◌≢◌, Ok, Err, ap, ◌∙�
 use Rattle.x86_operands.specs.declared.heads.After.TheVariants.{Search}
 use Rattle.x86_fields.specs.Steps.{◌>>=◌}
 use Rattle.x86_operands.specs.Places.{plan_placed}
+use Rattle.x86_groups.specs.Heads.{IsSure}
 use Rattle.x86_decode.specs.Walk.{plan_at, row_from, some_row}
 use Rattle.x86_decode.proofs.RowWalk.{after_begun, from_here}
 use Rattle.x86_decode.proofs.rows.read_row.Goals as goal
@@ -27,9 +28,10 @@ pub returns-in_err-read_operands-in-Some-clause-read : goal.returns-in_err-read_
 returns-in_err-read_operands-in-Some-clause-read g c = λ strict.
     let p = c.args.inst.now.prefixes in
     let row = c.args.found.now.row in
+    let sure : IsSure row c.in_ok-modrm.modrm c.in-Some.sure = search rules in
     let apart : c.word_after-after.result ≢ Search = search rules in
     let r : c.from_residual-in_err-read_operands-in-Some.result ≡ Err c.in_err-read_operands-in-Some.field-0.0 = search rules in
-    rw r (c.in_err-read_operands-in-Some.ensures.read strict
+    rw r (c.in_err-read_operands-in-Some.ensures.read strict row sure
     ∙ after_begun _ apart _ c.place_of-inst.result strict row p (c.word_after-after.ensures strict p) (Ok c.in_ok-modrm.modrm) _ c.in_ok-modrm.ensures
     ∙ from_here strict row p c.place_of-inst.ensures c.offset.ensures.count c.offset.ensures.unmoved)
 
@@ -37,8 +39,9 @@ pub returns-in_ok-read_operands-in-Some-clause-read : goal.returns-in_ok-read_op
 returns-in_ok-read_operands-in-Some-clause-read g c = λ strict.
     let p = c.args.inst.now.prefixes in
     let row = c.args.found.now.row in
+    let sure : IsSure row c.in_ok-modrm.modrm c.in-Some.sure = search rules in
     let apart : c.word_after-after.result ≢ Search = search rules in
-    c.in_ok-read_operands-in-Some.ensures.read strict
+    c.in_ok-read_operands-in-Some.ensures.read strict row sure
     ∙ after_begun _ apart _ c.place_of-inst.result strict row p (c.word_after-after.ensures strict p) (Ok c.in_ok-modrm.modrm) _ c.in_ok-modrm.ensures
     ∙ from_here strict row p c.place_of-inst.ensures c.offset.ensures.count c.offset.ensures.unmoved
 
