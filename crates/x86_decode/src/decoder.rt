@@ -58,9 +58,8 @@ fn next_modrm<T: Reader<u64, u8>>(reader: &mut T) -> Result<ModRM, DecodeError>
 #[inline(always)]
 fn read_next<T: Reader<u64, u8>>(next: Next, reader: &mut T) -> Result<ModRM, DecodeError>
     requires { next ≢ Next.Chosen Choice.Search }
-    ensures read { (r : RowRecord) → Continues (after_byte next) r →
+    ensures { (r : RowRecord) → Continues (after_byte next) r →
         outcome result (T.state reader.new) ≡ read_modrm r.modrm (T.state reader.old) }
-    ensures absent { next ≡ Next.Nothing → IfOk result (λ modrm. is_memory modrm ≡ false) }
 {
     match next {
         Next::Either => next_modrm(reader),

@@ -185,12 +185,9 @@ module _ (row : TableRow) (first : TemplateRow) (is : first ≡ first_of (form_r
     placed : (place : Place) → is_direct_at (next_at place) m ≡ true → is_placed place m ≡ true
     placed place h = grind arith
 
-    no_memory : (place : Place) → is_direct_at (next_at place) m ≡ true → place ≡ Place.Bare → is_memory m ≡ false
-    no_memory place h e = grind arith
-
     module _ (here : is_direct_at (next_at first.at.place) m ≡ true) where
       fits : is_read_at first.template m ≡ true
-      fits = is_read first m sure (placed first.at.place here) (no_memory first.at.place here)
+      fits = is_read first m sure (placed first.at.place here)
 
       chosen : (p : Prefixes) → plan_of_row first row p m ≡ form_plan row p m
       unfolding form_plan

@@ -31,7 +31,7 @@ is_chosen_at c m = false
 
 abbrev pub is_direct_at : Next → ℕ → Bool
 is_direct_at Either m = true
-is_direct_at Nothing m = not (is_memory m)
+is_direct_at Nothing m = true
 is_direct_at (Chosen c) m = is_chosen_at c m
 
 -- a group that has cells, by the number of its form, which is its ordinal and 1

@@ -1,8 +1,7 @@
 //! The rows of opcode bytes that no legacy prefix precedes, and that follow nothing or 0F: what follows the byte, and what
 //! is read there, where form, mod and reg alone choose the row.
 
-ghost use Rattle.std.specs.Prelude.{◌≡◌, false, IfSome};
-ghost use Rattle.x86_fields.specs.ModRM.{is_memory};
+ghost use Rattle.std.specs.Prelude.{◌≡◌, IfSome};
 ghost use Rattle.x86_forms.specs.declared.Map.{Map};
 ghost use Rattle.x86_forms.specs.declared.Column.{Column};
 ghost use Rattle.x86_forms.specs.declared.TableRow.{TableRow};
@@ -117,7 +116,6 @@ impl Next {
     /// Whether form and mod alone choose the row, and it is at a ModRM byte.
     #[inline(always)]
     fn is_direct_at(self, modrm: ModRM) -> bool
-        requires { self ≡ Next.Nothing → is_memory modrm ≡ false }
         ensures { result ≡ is_direct_at self modrm }
     {
         match self {
@@ -147,8 +145,7 @@ pub fn escaped_row(byte: u8) -> &'static ByteRow
 /// reg alone choose the row.
 #[inline(always)]
 pub fn sure_byte_row(row: &'static ByteRow, modrm: ModRM) -> Option<SureRow<'static>>
-    requires listed { IsListed row.now }
-    requires absent { row.now.next ≡ Next.Nothing → is_memory modrm ≡ false }
+    requires { IsListed row.now }
     ensures sure { (found : TableRow) → IsByteRow row.now found →
         IfSome result (IsSure found modrm) }
     ensures at_once { IfSome result (IsReadAt modrm) }

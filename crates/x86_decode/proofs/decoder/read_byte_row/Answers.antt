@@ -11,7 +11,7 @@ returns-in-Some-clause-read g c = λ strict found is.
     let apart : after_byte c.args.row.now.next ≢ Search = goes_on c.args.row.now.next (search rules) in
     outcome_if_ok c.read_operands.result _ _ _
     (c.read_operands.ensures.read strict found (search rules)
-    ∙ after_begun _ apart _ c.place_of-inst.result strict found p (is.begins strict p) (Ok c.in_ok-modrm.modrm) _ c.in_ok-modrm.ensures.read
+    ∙ after_begun _ apart _ c.place_of-inst.result strict found p (is.begins strict p) (Ok c.in_ok-modrm.modrm) _ c.in_ok-modrm.ensures
     ∙ from_here strict found p c.place_of-inst.ensures c.offset.ensures.count c.offset.ensures.unmoved)
 
 pub returns-in-Some-clause-has_row : goal.returns-in-Some-clause-has_row
