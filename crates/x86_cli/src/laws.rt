@@ -65,7 +65,7 @@ pub use x86_streams::laws::{first, sequences};
 use x86_streams::{
     Got, Input, Joined, Output, Process, Record, Recorder, Sink, SinkFailed, Source,
 };
-use x86_text::LINE_ROOM;
+use x86_text::{LINE_ROOM, Place};
 
 /// The headline, under either choice: what is proved of every byte string, of every run over a source and a sink, and of
 /// what the program leaves of a reader and a writer whose bytes are known.
@@ -139,8 +139,8 @@ pub fn addresses_are_by_the_bits()
         → value_at (raw_form raw) regs next ≡ encoded_address raw regs next }
 {}
 
-/// The line of each command, the listing of each of the two courses, what is known of that as the text is read, and the
-/// task of each request.
+/// The line of each command, the listing of each of the two courses and where it begins, what is known of that as the
+/// text is read, and the task of each request.
 pub fn commands_have_their_lines<L: Lines + Drop>()
     ensures list { (l : Plain) (strict : Bool) (place : ℕ) (i : Instruction) (bytes : List ℕ) →
         ⟦<Plain as Lines>⟧.text l strict place i bytes ≡ line_of place i }
@@ -151,16 +151,20 @@ pub fn commands_have_their_lines<L: Lines + Drop>()
         (bytes : List ℕ) → ⟦<LeastLines as Lines>⟧.text l strict place i bytes
         ≡ least_text place (length_of i) (shortest_length strict bytes) }
     ensures up_to_refusal { (c : UpToRefusal L) (strict : Bool) (place : ℕ) (t : Text) →
-        ⟦<UpToRefusal<L> as Course<LINE_ROOM>>⟧.lists c strict place t
+        ⟦<UpToRefusal<L> as Course<LINE_ROOM, Place>>⟧.lists c strict place t
         ≡ listing_at strict (L.text c.lines strict) place t }
     ensures known_up_to_refusal { (c : UpToRefusal L) (strict : Bool) (place : ℕ) (t : Text) →
-        ⟦<UpToRefusal<L> as Course<LINE_ROOM>>⟧.knows c strict place t
+        ⟦<UpToRefusal<L> as Course<LINE_ROOM, Place>>⟧.knows c strict place t
         ≡ listing_at strict (L.text c.lines strict) place t }
     ensures past_refusals { (c : PastRefusals) (strict : Bool) (place : ℕ) (t : Text) →
-        ⟦<PastRefusals as Course<LINE_ROOM>>⟧.lists c strict place t ≡ sweep_at strict place t }
+        ⟦<PastRefusals as Course<LINE_ROOM, Place>>⟧.lists c strict place t
+        ≡ sweep_at strict place t }
     ensures known_past_refusals { (c : PastRefusals) (strict : Bool) (place : ℕ) (t : Text) →
-        ⟦<PastRefusals as Course<LINE_ROOM>>⟧.knows c strict place t
+        ⟦<PastRefusals as Course<LINE_ROOM, Place>>⟧.knows c strict place t
         ≡ known_sweep_at strict place t }
+    ensures base { (c : UpToRefusal L) → ⟦<UpToRefusal<L> as Course<LINE_ROOM, Place>>⟧.base c ≡ 0 }
+    ensures sweep_base { (c : PastRefusals) →
+        ⟦<PastRefusals as Course<LINE_ROOM, Place>>⟧.base c ≡ 0 }
     ensures tasks { (request : Request) → ⟦<Request as Program>⟧.task request ≡ task_of request }
 {}
 

@@ -27,7 +27,8 @@ use Rattle.x86_objdump.specs.declared.vectors.Vector.{Vector}
 use Rattle.x86_objdump.specs.declared.vectors.Vector.TheVariants.{Absent, Cut, Whole}
 use Rattle.x86_objdump.specs.Certain.{LengthVaries}
 use Rattle.x86_objdump.specs.Lines.{beginning, tab}
-use Rattle.x86_objdump.specs.Listing.{Piece, piece_length, is_open_by, piece_at, pieces_from, address_of, piece_text, piece_line, piece_lines}
+use Rattle.x86_streams.specs.Lines.Address.{address_of}
+use Rattle.x86_objdump.specs.Listing.{Piece, piece_length, is_open_by, piece_at, pieces_from, piece_text, piece_line, piece_lines}
 use Rattle.x86_objdump.specs.Listing.{decided_of, shown_at, known_at, shown_max, showing}
 use Rattle.x86_objdump.specs.Pieces.{length_together, AreClosed}
 use Rattle.x86_objdump.proofs.PieceLemmas.{size, fit, some_bytes, divided, go_on, of_more}

@@ -10,6 +10,10 @@ grown : (old new text : List ℕ) (at end : ℕ) → at ≤ length old → end �
 grown old new text at end before after is =
     omega (arith, length-take-le end new after, length-take-le at old before, ap length is, length-append (take at old) text)
 
+-- a text ends where it begins or after it
+pub goes_on : (old new text : List ℕ) (at end : ℕ) → at ≤ length old → end ≤ length new → take end new ≡ take at old ++ text → at ≤ end
+goes_on old new text at end before after is = omega (arith, grown old new text at end before after is)
+
 module _ (old h b e head_is ops remark : List ℕ) (at head written blank end : ℕ) (at_in : at ≤ length old) (head_in : head ≤ length h)
     (blank_in : blank ≤ length b) (end_in : end ≤ length e)
     (head_text : take head h ≡ take at old ++ head_is) (written_is : written ≡ head - at)

@@ -26,7 +26,8 @@ use Rattle.x86_cli.specs.declared.text.window.AtRefusal.TheVariants as refusal
 use Rattle.x86_cli.proofs.ListingLemmas.Sweep.{some_bytes}
 use Rattle.x86_objdump.specs.Lines.{vector_text, refused_text}
 use Rattle.x86_objdump.specs.Vectors.{vector_of, vector_after, once_ended}
-use Rattle.x86_objdump.specs.Listing.{Piece, length_by, piece_length, is_open_by, piece_at, pieces_skipping, pieces_from, address_of}
+use Rattle.x86_streams.specs.Lines.Address.{address_of}
+use Rattle.x86_objdump.specs.Listing.{Piece, length_by, piece_length, is_open_by, piece_at, pieces_skipping, pieces_from}
 use Rattle.x86_objdump.specs.Listing.{piece_text, piece_lines, decided_of, shown_at, known_at}
 use Rattle.x86_objdump.proofs.VectorLemmas.{within, at_most_fifteen, enough, stays}
 

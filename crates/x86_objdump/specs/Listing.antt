@@ -5,6 +5,7 @@ use Rattle.x86_decode.specs.declared.instructions.Instruction.{Instruction}
 use Rattle.x86_decode.specs.Instruction.{length_of}
 use Rattle.x86_decode.specs.Answer.{answer_of}
 use Rattle.x86_layout.specs.Parts.OfBytes.{parts_of}
+use Rattle.x86_streams.specs.Lines.Address.{address_of}
 use Rattle.x86_streams.specs.Text.{Text}
 use Rattle.x86_cli.specs.Listings.Performs.{Task}
 use Rattle.x86_cli.specs.Listings.Line.{line}
@@ -55,10 +56,6 @@ pieces_skipping strict (suc skip) place (x ∷ xs) = pieces_skipping strict skip
 -- the pieces of bytes from a place on
 abbrev pub pieces_from : Bool → ℕ → List ℕ → List Piece
 pieces_from strict place bytes = pieces_skipping strict 0 place bytes
-
--- the address of a place, where the image begins at a base
-abbrev pub address_of : ℕ → ℕ → ℕ
-address_of base place = (base + place) % 2 ^ 64
 
 abbrev pub piece_text : Bool → ℕ → List ℕ → Result Instruction DecodeError → Vector → List ℕ
 piece_text strict address bytes (Ok i) v = shown_text address bytes i (parts_of strict bytes)

@@ -5,6 +5,7 @@ ghost use Rattle.arrayvec.specs.ArrayVec.{array_vec_len};
 ghost use Rattle.x86_decode.specs.Answer.{answer_of};
 ghost use Rattle.x86_decode.specs.Decoder.{is_strict};
 ghost use Rattle.x86_decode.specs.Instruction.{length_of};
+ghost use Rattle.x86_streams.specs.Lines.Address.{address_number};
 ghost use Rattle.x86_objdump.specs.Lines.{shown_room, column, beginning, shown_line, vector_text, refused_text};
 
 use crate::text::put_instruction;
@@ -12,9 +13,9 @@ use x86_cli::laws::decoder_laws;
 use x86_cli::listings::listing::length_of;
 use x86_decode::laws::lengths;
 use x86_decode::{DecodeError, InstDecoder, Instruction};
-use x86_streams::lines::Room;
 use x86_streams::lines::cells::{put, put_bytes, put_first};
-use x86_streams::lines::hexadecimal::{put_hexadecimal, put_spaced_bytes};
+use x86_streams::lines::hexadecimal::put_spaced_bytes;
+use x86_streams::lines::{Address, Room};
 
 /// How many bytes a line has room for, its end included.
 pub const SHOWN_ROOM: usize = 528;
@@ -73,15 +74,22 @@ fn put_column(cells: &mut [u8], at: usize, known: &[u8], count: usize) -> usize
 /// Writes the address, and the first bytes of those that are known, in a column that is as wide as seven of them.
 #[inline(always)]
 #[tactic(auto, unfolding(crate::specs::Lines::beginning))]
-fn put_beginning(cells: &mut [u8], at: usize, address: u64, known: &[u8], count: usize) -> usize
+fn put_beginning(
+    cells: &mut [u8],
+    at: usize,
+    address: &Address,
+    known: &[u8],
+    count: usize,
+) -> usize
     requires room { at + 128 ≤ length cells.old }
     requires few { count ≤ 15 }
     requires there { count ≤ length known.now }
     ensures text { take result cells.new
-        ≡ take at cells.old ++ beginning address (take count known.now) }
+        ≡ take at cells.old ++ beginning (address_number address.now) (take count known.now) }
     ensures short { result ≤ at + 64 }
 {
-    let at = put_hexadecimal(cells, at, address);
+    let digits = address.digits();
+    let at = put_first(cells, at, &digits.cells, digits.len);
     let at = put(cells, at, b':');
     let at = put(cells, at, b'\t');
     let at = put_column(cells, at, known, count);
@@ -109,11 +117,28 @@ pub fn push_shown<const N: usize>(
         ++ shown_line (is_strict decoder.now) address bytes.now instruction.now }
     ensures short { array_vec_len line.new < array_vec_len line.old + shown_room }
 {
+    push_shown_at(line, decoder, &Address::at(address), instruction, bytes);
+}
+
+/// The same of an address with its digits, for listings.
+pub fn push_shown_at<const N: usize>(
+    line: &mut Room<N>,
+    decoder: &InstDecoder,
+    address: &Address,
+    instruction: &Instruction,
+    bytes: &[u8],
+)
+    requires decoded { answer_of (is_strict decoder.now) bytes.now ≡ Ok instruction.now }
+    requires room { array_vec_len line.old + shown_room ≤ N }
+    ensures text { line.new.items ≡ line.old.items
+        ++ shown_line (is_strict decoder.now) (address_number address.now) bytes.now instruction.now }
+    ensures short { array_vec_len line.new < array_vec_len line.old + shown_room }
+{
     decoder_laws();
     lengths();
     let count = length_of(instruction) as usize;
     let at = put_beginning(&mut line.cells, line.len, address, bytes, count);
-    let next = address.wrapping_add(length_of(instruction));
+    let next = address.number().wrapping_add(length_of(instruction));
     line.len = put_instruction(
         &mut line.cells,
         at,
@@ -138,11 +163,9 @@ pub fn shown_line(
     bytes: &[u8],
 ) -> Result<ShownLine, DecodeError>
     ensures line { MatchResult result
-        (λ line. (i : Instruction) → answer_of (is_strict decoder.now) bytes.now ≡ Ok i →
-        line.items ≡ shown_line (is_strict decoder.now) address bytes.now i)
+        (λ line. (i : Instruction) × (answer_of (is_strict decoder.now) bytes.now ≡ Ok i)
+        × (line.items ≡ shown_line (is_strict decoder.now) address bytes.now i))
         (λ error. answer_of (is_strict decoder.now) bytes.now ≡ Err error) }
-    ensures refused { (error : DecodeError) →
-        answer_of (is_strict decoder.now) bytes.now ≡ Err error → result ≡ Err error }
 {
     let mut line = ShownLine::new();
     let instruction = decoder.decode_slice(bytes)?;
@@ -151,10 +174,11 @@ pub fn shown_line(
 }
 
 /// Appends the line of a VEX, EVEX or XOP encoding, without its end.
-pub fn push_vector<const N: usize>(line: &mut Room<N>, address: u64, bytes: &[u8])
+pub fn push_vector<const N: usize>(line: &mut Room<N>, address: &Address, bytes: &[u8])
     requires few { length bytes.now ≤ 15 }
     requires room { array_vec_len line.old + shown_room ≤ N }
-    ensures text { line.new.items ≡ line.old.items ++ vector_text address bytes.now }
+    ensures text { line.new.items ≡ line.old.items
+        ++ vector_text (address_number address.now) bytes.now }
     ensures short { array_vec_len line.new < array_vec_len line.old + shown_room }
 {
     let at = put_beginning(&mut line.cells, line.len, address, bytes, bytes.len());
@@ -162,10 +186,11 @@ pub fn push_vector<const N: usize>(line: &mut Room<N>, address: u64, bytes: &[u8
 }
 
 /// Appends the line of a byte that begins nothing, without its end.
-pub fn push_bad<const N: usize>(line: &mut Room<N>, address: u64, bytes: &[u8])
+pub fn push_bad<const N: usize>(line: &mut Room<N>, address: &Address, bytes: &[u8])
     requires few { length bytes.now ≤ 15 }
     requires room { array_vec_len line.old + shown_room ≤ N }
-    ensures text { line.new.items ≡ line.old.items ++ refused_text address bytes.now }
+    ensures text { line.new.items ≡ line.old.items
+        ++ refused_text (address_number address.now) bytes.now }
     ensures short { array_vec_len line.new < array_vec_len line.old + shown_room }
 {
     let at = put_beginning(&mut line.cells, line.len, address, bytes, bytes.len());

@@ -2,7 +2,7 @@
 
 ghost use Rattle.x86_objdump.specs.Listing.{shown_at, known_at, showing};
 
-use crate::lines::{SHOWN_ROOM, push_bad, push_shown, push_vector};
+use crate::lines::{SHOWN_ROOM, push_bad, push_shown_at, push_vector};
 use crate::vectors::{Vector, vector_at};
 use x86_cli::laws::decoder_laws;
 use x86_cli::listings::listing::{Course, Entry, length_of, list};
@@ -10,7 +10,7 @@ use x86_cli::listings::sweep::shown_at;
 use x86_cli::text::window::AtRefusal;
 use x86_cli::{Finished, Program};
 use x86_decode::{InstDecoder, Instruction};
-use x86_streams::lines::Place;
+use x86_streams::lines::Address;
 use x86_streams::{Held, Input, Output, Window};
 
 /// The listing of an image that begins at an address.
@@ -19,27 +19,28 @@ pub struct ShowAt {
     pub base: u64,
 }
 
-impl Course<SHOWN_ROOM> for ShowAt {
+impl Course<SHOWN_ROOM, Address> for ShowAt {
     ghost lists = { λ s strict place text. shown_at strict s.base place text };
 
     ghost knows = { λ s strict place text. known_at strict s.base place text };
+
+    ghost base = { λ s. s.base };
 
     #[inline(always)]
     fn next(
         &self,
         decoder: &InstDecoder,
         window: &Window,
-        place: &Place,
+        place: &Address,
         inst: &mut Instruction,
         held: &mut Held,
     ) -> Entry {
         decoder_laws();
         let bytes = window.bytes.as_slice();
-        let address = self.base.wrapping_add(place.number());
         match decoder.decode_slice_into(inst, bytes) {
             Ok(()) => {
                 let length = length_of(inst);
-                push_shown(held, decoder, address, inst, bytes);
+                push_shown_at(held, decoder, place, inst, bytes);
                 Entry::Line(length)
             }
             Err(error) => match shown_at(window, error) {
@@ -48,11 +49,11 @@ impl Course<SHOWN_ROOM> for ShowAt {
                 AtRefusal::Refused => match vector_at(bytes, window.ended.is_some()) {
                     Vector::Cut => Entry::Undecided,
                     Vector::Whole(length) => {
-                        push_vector(held, address, &bytes[..length]);
+                        push_vector(held, place, &bytes[..length]);
                         Entry::Line(length as u64)
                     }
                     Vector::Absent => {
-                        push_bad(held, address, &bytes[..1]);
+                        push_bad(held, place, &bytes[..1]);
                         Entry::Line(1)
                     }
                 },
@@ -68,6 +69,13 @@ impl Program for ShowAt {
 
     fn run<E, O: Input<E> + Output<E>>(&self, outside: &O, streams: &mut E) -> Finished {
         let decoder = InstDecoder::default();
-        list(&decoder, self, u64::MAX / 4, outside, streams)
+        list(
+            &decoder,
+            self,
+            Address::at(self.base),
+            u64::MAX / 4,
+            outside,
+            streams,
+        )
     }
 }

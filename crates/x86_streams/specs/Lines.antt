@@ -1,2 +1,3 @@
 -- Numbers and bytes as text.
 pub mod Hexadecimal
+pub mod Address

@@ -5,7 +5,7 @@ use x86_fields::DecodeError;
 use x86_layout::{EmitError, TightenError};
 use x86_opcodes::Opcode;
 use x86_regs::{MergeMode, RegSpec, RegisterClass, SaeMode, register_class};
-use x86_streams::lines::{Line, Place};
+use x86_streams::lines::{Counter, Line, Place};
 
 fn is_named(register: RegSpec, name: &str) -> bool {
     register.name() == name

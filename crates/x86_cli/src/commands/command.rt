@@ -14,6 +14,7 @@ use crate::listings::sweep::PastRefusals;
 use crate::listings::targets::targets;
 use crate::listings::tightening::LeastLines;
 use x86_decode::InstDecoder;
+use x86_streams::lines::Place;
 use x86_streams::{Input, Output};
 
 /// The most bytes of a text.
@@ -84,13 +85,14 @@ impl Command {
         let fields = UpToRefusal { lines: FieldLines };
         let least = UpToRefusal { lines: LeastLines };
         let plain = UpToRefusal { lines: Plain };
+        let first = Place::at(0);
         match self {
             Command::List { strict } => {
-                list(&decoder(strict), &plain, TEXT_MAX, outside, streams)
+                list(&decoder(strict), &plain, first, TEXT_MAX, outside, streams)
             }
-            Command::Fields => list(&default, &fields, TEXT_MAX, outside, streams),
-            Command::Tighten => list(&default, &least, TEXT_MAX, outside, streams),
-            Command::Sweep => list(&default, &PastRefusals, TEXT_MAX, outside, streams),
+            Command::Fields => list(&default, &fields, first, TEXT_MAX, outside, streams),
+            Command::Tighten => list(&default, &least, first, TEXT_MAX, outside, streams),
+            Command::Sweep => list(&default, &PastRefusals, first, TEXT_MAX, outside, streams),
             Command::Targets => targets(&default, TARGETS_MAX, outside, streams),
         }
     }

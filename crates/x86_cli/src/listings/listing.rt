@@ -19,6 +19,7 @@ use crate::listings::status::{Finished, Status};
 use crate::text::window::{Decoded, decode_next};
 use x86_decode::{InstDecoder, Instruction};
 use x86_fields::DecodeError;
+use x86_streams::lines::Counter;
 use x86_streams::{Ending, Gathered, Held, Input, Output, Window, WriteFailed};
 use x86_text::{LINE_ROOM, Line, Place, Room, refusal_of};
 
@@ -153,26 +154,30 @@ pub enum Entry {
 }
 
 /// What comes next in a listing, place by place, with room for `N` bytes in a line.
-pub trait Course<const N: usize> {
+pub trait Course<const N: usize, P: Counter> {
     /// The listing of a text from a place on.
     ghost lists: { Self → Bool → ℕ → Text → Listing };
 
     /// What is listed of a text from a place on whatever follows it, and its end.
     ghost knows: { Self → Bool → ℕ → Text → Listing };
 
+    /// The address at which the image begins.
+    ghost base: { Self → ℕ };
+
     /// The next entry at a place. The text of a line is appended to what is held, without its end.
     fn next(
         &self,
         decoder: &InstDecoder,
         window: &Window,
-        place: &Place,
+        place: &P,
         inst: &mut Instruction,
         held: &mut Held,
     ) -> Entry
-        requires { array_vec_len held.old ≤ 65536 }
+        requires room { array_vec_len held.old ≤ 65536 }
+        requires base { P.base place.now ≡ base self.now }
         ensures next { (text : List ℕ) × Appends result text held.old.items held.new.items
             × IsEntry (lists self.now (is_strict decoder.now))
-            (knows self.now (is_strict decoder.now)) result place.now text
+            (knows self.now (is_strict decoder.now)) result (P.place place.now) text
             window.now.ended window.now.bytes.items window.now.text.position
             window.now.text.room }
         ensures short { array_vec_len held.new < array_vec_len held.old + N };
@@ -184,10 +189,12 @@ pub struct UpToRefusal<L: Lines + Drop> {
     pub lines: L,
 }
 
-impl<L: Lines + Drop> Course<LINE_ROOM> for UpToRefusal<L> {
+impl<L: Lines + Drop> Course<LINE_ROOM, Place> for UpToRefusal<L> {
     ghost lists = { λ s strict place text. listing_at strict (L.text s.lines strict) place text };
 
     ghost knows = { λ s strict place text. listing_at strict (L.text s.lines strict) place text };
+
+    ghost base = { λ s. 0 };
 
     #[tactic(auto, using(crate::proofs::ListingLemmas::NextEntry::entry_refused))]
     #[inline(always)]
@@ -216,15 +223,18 @@ impl<L: Lines + Drop> Course<LINE_ROOM> for UpToRefusal<L> {
 }
 
 /// Writes the listing of the reader's text. Each line is gathered as soon as it is decided. A read is made only where what
-/// was read decides no more, once all that was gathered is sent.
-pub fn list<const N: usize, C: Course<N>, E, O: Input<E> + Output<E>>(
+/// was read decides no more, once all that was gathered is sent. `first` is the first place.
+pub fn list<const N: usize, P: Counter + Drop, C: Course<N, P>, E, O: Input<E> + Output<E>>(
     decoder: &InstDecoder,
     course: &C,
+    first: P,
     max: u64,
     outside: &O,
     streams: &mut E,
 ) -> Finished
     requires size { N ≤ 1024 }
+    requires first { P.place first ≡ 0 }
+    requires base { P.base first ≡ C.base course.now }
     requires max { max < 2 ^ 62 }
     ensures { Performs O.reads O.writes O.flushes O.gathers (record {
       max = max;
@@ -235,7 +245,7 @@ pub fn list<const N: usize, C: Course<N>, E, O: Input<E> + Output<E>>(
     let mut window = Window::new(max);
     let mut out = Gathered::new();
     let mut inst = Instruction::invalid();
-    let mut place = Place::at(0);
+    let mut place = first;
     'lines: loop {
         window.take_known();
         let held = out.bytes.len();
@@ -258,7 +268,7 @@ pub fn list<const N: usize, C: Course<N>, E, O: Input<E> + Output<E>>(
                 }
             }
             Entry::Refused(error) => {
-                let text = refusal_of(place.number(), error);
+                let text = refusal_of(place.place(), error);
                 return put_last(outside, &mut out, streams, text, Status::Refused);
             }
             Entry::Ended(ending) => return end(outside, &mut out, streams, ending),

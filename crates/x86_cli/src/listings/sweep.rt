@@ -35,10 +35,12 @@ pub fn shown_at(window: &Window, error: DecodeError) -> AtRefusal
     }
 }
 
-impl Course<LINE_ROOM> for PastRefusals {
+impl Course<LINE_ROOM, Place> for PastRefusals {
     ghost lists = { λ s strict place text. sweep_at strict place text };
 
     ghost knows = { λ s strict place text. known_sweep_at strict place text };
+
+    ghost base = { λ s. 0 };
 
     #[inline(always)]
     fn next(

@@ -59,15 +59,17 @@ fn put_head(cells: &mut [u8], at: usize, shown: &Shown, run: &[u8]) -> usize
     put_name(cells, at, shown.context, shown.entry, immediate_in(shown))
 }
 
-/// Writes the blanks after a head of so many bytes.
+/// Writes the blanks after a head that ends at `head`: up to seven bytes, and at least one.
 #[inline(always)]
 #[tactic(auto, using(crate::proofs::Blanks::first_of_eight))]
-fn put_blanks(cells: &mut [u8], at: usize, written: usize) -> usize
-    requires { at + 8 ≤ length cells.old }
-    ensures text { take result cells.new ≡ take at cells.old ++ replicate (6 - written + 1) 32 }
-    ensures place { result ≡ at + (6 - written + 1) }
+fn put_blanks(cells: &mut [u8], at: usize, head: usize) -> usize
+    requires after { at ≤ head }
+    requires room { head + 8 ≤ length cells.old }
+    ensures text { take result cells.new
+        ≡ take head cells.old ++ replicate (6 - (head - at) + 1) 32 }
+    ensures place { result ≡ head + (6 - (head - at) + 1) }
 {
-    put_first(cells, at, b"        ", 6usize.saturating_sub(written) + 1)
+    put_first(cells, head, b"        ", (at + 7).max(head + 1) - head)
 }
 
 /// Writes the text of an instruction by what the rules read of it.
@@ -84,7 +86,7 @@ fn put_shown(cells: &mut [u8], at: usize, shown: &Shown, run: &[u8], next: u64) 
     ensures short { result ≤ at + 443 }
 {
     let head = put_head(cells, at, shown, run);
-    let blank = put_blanks(cells, head, head.saturating_sub(at));
+    let blank = put_blanks(cells, at, head);
     let end = put_operands(cells, blank, shown, next);
     if end == blank {
         head

@@ -24,7 +24,7 @@ step n h =
     some n (omega arith) ∙ ap glyphs (digits_of_step 16 n (omega arith) (omega arith)) ∙ map_push (slice_index lower_digits) (digits_of 16 (n / 16)) (n % 16)
     ∙ ap (λ xs. xs ++ slice_index lower_digits (n % 16) ∷ []) (sym (some (n / 16) (omega arith)))
 
-one_digit : (n : ℕ) → n < 16 → hexadecimal n ≡ slice_index lower_digits n ∷ []
+pub one_digit : (n : ℕ) → n < 16 → hexadecimal n ≡ slice_index lower_digits n ∷ []
 unfolding hexadecimal
 one_digit zero small = refl
 one_digit (suc m) small =
@@ -32,11 +32,11 @@ one_digit (suc m) small =
     let last : suc m % 16 ≡ suc m = omega arith in
     some (suc m) (omega arith) ∙ ap glyphs (digits_of_step 16 (suc m) (omega arith) (omega arith)) ∙ (λ i. glyphs (digits_of 16 (front i) ++ last i ∷ []))
 
-two_digits : (n : ℕ) → 16 ≤ n → n < 256 → hexadecimal n ≡ encode_lower (n ∷ [])
+pub two_digits : (n : ℕ) → 16 ≤ n → n < 256 → hexadecimal n ≡ encode_lower (n ∷ [])
 unfolding encode_with
 two_digits n large small = step n large ∙ ap (λ xs. xs ++ slice_index lower_digits (n % 16) ∷ []) (one_digit (n / 16) (omega arith))
 
-last_two : (n : ℕ) → 256 ≤ n → hexadecimal n ≡ hexadecimal (n / 256) ++ encode_lower (n % 256 ∷ [])
+pub last_two : (n : ℕ) → 256 ≤ n → hexadecimal n ≡ hexadecimal (n / 256) ++ encode_lower (n % 256 ∷ [])
 unfolding encode_with
 last_two n large =
     let front : n / 16 / 16 ≡ n / 256 = omega arith in

@@ -5,17 +5,7 @@ ghost use Rattle.std.specs.Prelude.{◌≡◌, ℕ, List, ◌+◌, ◌*◌, ◌/
 ghost use Rattle.x86_streams.specs.Lines.Hexadecimal.{hexadecimal, pair, eight_digits, prefixed, spaced_byte, spaced_bytes};
 
 use crate::lines::cells::{put, put_first};
-use crate::lines::digits::hex_of;
-
-/// Writes the two digits of a byte.
-#[inline(always)]
-fn put_pair(cells: &mut [u8], at: usize, byte: u8) -> usize
-    requires { at + 2 ≤ length cells.old }
-    ensures text { take result cells.new ≡ take at cells.old ++ pair byte }
-    ensures place { result ≡ at + 2 }
-{
-    put_first(cells, at, hex_of(byte), 2)
-}
+use crate::lines::digits::{hex_of, put_hex_pair};
 
 /// Writes the two digits of each of four bytes, the highest first.
 #[inline(always)]
@@ -24,10 +14,10 @@ fn put_eight(cells: &mut [u8], at: usize, n: u32) -> usize
     ensures text { take result cells.new ≡ take at cells.old ++ eight_digits n }
     ensures place { result ≡ at + 8 }
 {
-    let at = put_pair(cells, at, (n / 16_777_216) as u8);
-    let at = put_pair(cells, at, (n / 65_536 % 256) as u8);
-    let at = put_pair(cells, at, (n / 256 % 256) as u8);
-    put_pair(cells, at, (n % 256) as u8)
+    let at = put_hex_pair(cells, at, (n / 16_777_216) as u8);
+    let at = put_hex_pair(cells, at, (n / 65_536 % 256) as u8);
+    let at = put_hex_pair(cells, at, (n / 256 % 256) as u8);
+    put_hex_pair(cells, at, (n % 256) as u8)
 }
 
 /// How many digits follow the first of a number of at most eight.
@@ -66,6 +56,20 @@ fn put_more_than_eight(cells: &mut [u8], at: usize, n: u64) -> usize
     put_eight(cells, at, (n % 4_294_967_296) as u32)
 }
 
+/// Writes a number of at most two digits, as most in a listing are.
+#[inline(always)]
+fn put_at_most_two(cells: &mut [u8], at: usize, byte: u8) -> usize
+    requires { at + 2 ≤ length cells.old }
+    ensures text { take result cells.new ≡ take at cells.old ++ hexadecimal byte }
+    ensures short { result ≤ at + 2 }
+{
+    if byte < 16 {
+        put(cells, at, hex_of(byte)[1])
+    } else {
+        put_hex_pair(cells, at, byte)
+    }
+}
+
 /// Writes a number in lower case and without leading zeros, as `1f` of 31. It has at most sixteen digits.
 #[inline(never)]
 pub fn put_hexadecimal(cells: &mut [u8], at: usize, n: u64) -> usize
@@ -73,7 +77,9 @@ pub fn put_hexadecimal(cells: &mut [u8], at: usize, n: u64) -> usize
     ensures text { take result cells.new ≡ take at cells.old ++ hexadecimal n }
     ensures short { result ≤ at + 16 }
 {
-    if n < 4_294_967_296 {
+    if n < 256 {
+        put_at_most_two(cells, at, n as u8)
+    } else if n < 4_294_967_296 {
         put_at_most_eight(cells, at, n as u32)
     } else {
         put_more_than_eight(cells, at, n)
@@ -91,21 +97,20 @@ pub fn put_prefixed(cells: &mut [u8], at: usize, n: u64) -> usize
     put_hexadecimal(cells, at, n)
 }
 
-/// Writes the two digits of a byte, and a space.
+/// Writes the two digits of a byte, and a space. Another space is written after them.
 #[inline(always)]
 fn put_spaced_byte(cells: &mut [u8], at: usize, byte: u8) -> usize
-    requires { at + 3 ≤ length cells.old }
+    requires { at + 4 ≤ length cells.old }
     ensures text { take result cells.new ≡ take at cells.old ++ spaced_byte byte }
     ensures place { result ≡ at + 3 }
 {
-    let at = put_first(cells, at, hex_of(byte), 2);
-    put(cells, at, b' ')
+    put_first(cells, at, hex_of(byte), 3)
 }
 
 /// Writes the two digits of each byte, with a space after each, as `48 01 d8 `.
 #[inline(always)]
 pub fn put_spaced_bytes(cells: &mut [u8], at: usize, bytes: &[u8]) -> usize
-    requires { at + 3 * length bytes.now ≤ length cells.old }
+    requires { at + 3 * length bytes.now + 1 ≤ length cells.old }
     ensures text { take result cells.new ≡ take at cells.old ++ spaced_bytes bytes.now }
     ensures place { result ≡ at + 3 * length bytes.now }
 {

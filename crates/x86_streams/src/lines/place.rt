@@ -1,10 +1,29 @@
 //! Places in an image.
 
-ghost use Rattle.std.specs.Prelude.{◌≡◌, ◌+◌, ◌≤◌, ◌<◌, ◌^◌, decimal};
+ghost use Rattle.std.specs.Prelude.{◌≡◌, ℕ, ◌+◌, ◌≤◌, ◌<◌, ◌^◌, decimal};
 ghost use Rattle.arrayvec.specs.ArrayVec.{array_vec_len};
 
 use crate::lines::room::Room;
 use std::marker::Model;
+
+/// A place in an image that increases.
+pub trait Counter {
+    /// How many bytes of the image are before it.
+    ghost place: { Self → ℕ };
+
+    /// The address at which the image begins.
+    ghost base: { Self → ℕ };
+
+    /// How many bytes of the image are before it.
+    fn place(&self) -> u64
+        ensures { result ≡ place self.now };
+
+    /// Increases the place by so many bytes.
+    fn advance(&mut self, by: u64)
+        requires { place self.old + by < 2 ^ 64 }
+        ensures place { place self.new ≡ place self.old + by }
+        ensures base { base self.new ≡ base self.old };
+}
 
 /// A place in an image, with its decimal. As the place increases, only the digits that change are written.
 #[derive(Drop)]
@@ -41,14 +60,6 @@ impl Place {
         }
     }
 
-    /// The number.
-    #[inline(always)]
-    pub fn number(&self) -> u64
-        ensures { result ≡ self.now }
-    {
-        self.number
-    }
-
     /// The decimal.
     #[inline(always)]
     pub fn digits(&self) -> &Room<32>
@@ -56,21 +67,6 @@ impl Place {
         ensures short { array_vec_len result.now ≤ 20 }
     {
         &self.digits
-    }
-
-    /// Increases the place by so many bytes.
-    #[inline(always)]
-    pub fn advance(&mut self, by: u64)
-        requires { self.old + by < 2 ^ 64 }
-        ensures { self.new ≡ self.old + by }
-    {
-        if by < self.spare {
-            self.number += by;
-            self.spare -= by;
-            self.digits.set_last_digits((100 - self.spare) as u8);
-        } else {
-            self.renew(self.number + by);
-        }
     }
 
     /// Goes to a place, whose digits are all written.
@@ -82,5 +78,27 @@ impl Place {
         self.spare = if number < 100 { 0 } else { 100 - number % 100 };
         self.digits.clear();
         self.digits.push_u64(number);
+    }
+}
+
+impl Counter for Place {
+    ghost place = { λ p. p };
+
+    ghost base = { λ p. 0 };
+
+    #[inline(always)]
+    fn place(&self) -> u64 {
+        self.number
+    }
+
+    #[inline(always)]
+    fn advance(&mut self, by: u64) {
+        if by < self.spare {
+            self.number += by;
+            self.spare -= by;
+            self.digits.set_last_digits((100 - self.spare) as u8);
+        } else {
+            self.renew(self.number + by);
+        }
     }
 }

@@ -7,7 +7,7 @@ ghost use Rattle.arrayvec.specs.ArrayVec.{array_vec_len};
 ghost use Rattle.hex.specs.Hex.{encode_lower};
 
 use crate::lines::cells::{put, put_bytes, put_first};
-use crate::lines::digits::{pair_of, put_hex, put_signed, put_u8, put_u32, put_u64};
+use crate::lines::digits::{pair_of, put_hex, put_hex_pair, put_signed, put_u8, put_u32, put_u64};
 use std::alloc::AllocError;
 use std::fmt;
 use std::fmt::Display;
@@ -81,6 +81,16 @@ impl<const N: usize> Room<N> {
             (48 + n / 10) ∷ (48 + n % 10) ∷ [] }
     {
         self.len = put_first(&mut self.cells, self.len - 2, pair_of(n), 2);
+    }
+
+    /// Writes the two hex digits of a byte over the last two bytes.
+    #[inline(always)]
+    pub fn set_last_hex(&mut self, byte: u8)
+        requires { 2 ≤ array_vec_len self.old }
+        ensures { self.new.items ≡ take (array_vec_len self.old - 2) self.old.items
+            ++ encode_lower (byte ∷ []) }
+    {
+        self.len = put_hex_pair(&mut self.cells, self.len - 2, byte);
     }
 
     /// Appends the bytes of a room, all of whose cells are copied. Only rooms of a power of two, at most 64 bytes, can be

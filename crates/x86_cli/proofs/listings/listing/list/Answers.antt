@@ -8,9 +8,10 @@ lines-init g c =
     let e = c.new-window.ensures in
     record {
       image = [];
-      live = rw (e.ended, e.bytes, c.new-out.ensures, c.at-place.ensures) (live_new _ _ _ _ _ _ _ _ _ (fresh _ _ e.position e.room e.unread));
+      live = rw (e.ended, e.bytes, c.new-out.ensures, c.requires.first) (live_new _ _ _ _ _ _ _ _ _ (fresh _ _ e.position e.room e.unread));
       short = omega (arith, ap length c.new-out.ensures);
-      fits = omega (arith, ap length e.bytes, e.room);
+      fits = omega (arith, ap length e.bytes, e.room, c.requires.first);
+      base = c.requires.base;
     }
 
 pub lines-preserved-in-Line : goal.lines-preserved-in-Line
@@ -20,7 +21,7 @@ lines-preserved-in-Line g c =
     let puts = rw (step.1, c.len-held.ensures, drop-append_seam, take-append_seam) at c.in-Ok.ensures.puts in
     record {
       image = c.lines.invariant.image ++ take c.in-Line.length c.take_known.new.self.bytes.items;
-      live = rw (c.advance.ensures, c.leave.ensures) (live_line _ _ _ _ _ _ _ _ _ _ _ _ _ _ _ s _ _ _ _ step.2.2 step.2.3 puts);
+      live = rw (c.advance.ensures.place, c.leave.ensures) (live_line _ _ _ _ _ _ _ _ _ _ _ _ _ _ _ s _ _ _ _ step.2.2 step.2.3 puts);
       short = c.in-Ok.ensures.short;
       fits = omega (
         arith,
@@ -28,8 +29,9 @@ lines-preserved-in-Line g c =
         c.take_known.ensures.takes.fits.0,
         c.lines.invariant.fits,
         step.2.1,
-        c.advance.ensures,
+        c.advance.ensures.place,
       );
+      base = c.advance.ensures.base ∙ c.lines.invariant.base;
     }
 
 pub returns-in-Err : goal.returns-in-Err
@@ -62,13 +64,14 @@ lines-preserved-then-not-step g c =
         c.take_known.ensures.takes.fits.0,
         c.lines.invariant.fits,
       );
+      base = c.lines.invariant.base;
     }
 
 pub returns-in-Refused : goal.returns-in-Refused
 returns-in-Refused g c =
     let s = live_take _ _ _ _ _ _ _ _ _ _ _ _ _ _ _ c.lines.invariant.live _ _ _ c.take_known.ensures.ended c.take_known.ensures.takes in
     live_closes _ _ _ _ _ _ _ _ _ _ _ _ _ _ _ s _ _ _ c.in-Refused.ensures.next.2
-    (rw (c.in-Refused.ensures.next.1, c.refusal_of-text.ensures.text, c.number.ensures) at c.put_last.ensures)
+    (rw (c.in-Refused.ensures.next.1, c.refusal_of-text.ensures.text, c.place.ensures) at c.put_last.ensures)
 
 pub returns-in-Ended : goal.returns-in-Ended
 returns-in-Ended g c =

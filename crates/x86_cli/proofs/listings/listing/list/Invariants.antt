@@ -1,4 +1,4 @@
-use Rattle.std.proofs.Common.{◌≤◌, ◌+◌, List, ℕ, length}
+use Rattle.std.proofs.Common.{◌≡◌, ◌≤◌, ◌+◌, List, ℕ, length}
 use Rattle.x86_streams.specs.Text.Window.{turns_left}
 use Rattle.x86_cli.proofs.ListingLemmas.Live.{Live}
 use Rattle.x86_cli.proofs.listings.listing.list.Given as goal
@@ -8,9 +8,10 @@ invariant-lines g l = record {
   image : List ℕ;
   live : Live g.O.Input.reads g.O.Output.writes g.O.Output.flushes g.O.Output.gathers (g.C.Course.lists l.course l.decoder.strict)
       (g.C.Course.knows l.course l.decoder.strict) l.fn.max l.fn.streams
-      image l.place l.window.ended l.window.bytes.items l.window.text l.out.bytes.items l.streams;
+      image (g.P.Counter.place l.place) l.window.ended l.window.bytes.items l.window.text l.out.bytes.items l.streams;
   short : length l.out.bytes.items ≤ 65536;
-  fits : l.place + length l.window.bytes.items + l.window.text.room ≤ l.fn.max;
+  fits : g.P.Counter.place l.place + length l.window.bytes.items + l.window.text.room ≤ l.fn.max;
+  base : g.P.Counter.base l.place ≡ g.C.Course.base l.course;
 }
 
 abbrev pub decreases-lines : goal.decreases-lines

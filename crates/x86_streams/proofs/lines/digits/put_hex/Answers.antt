@@ -24,6 +24,6 @@ loop-byte-init c = record { text = sym (append-nil (take c.args.at c.args.cells.
 pub loop-byte-preserved : goal.loop-byte-preserved
 unfolding encode_with
 loop-byte-preserved c = record {
-  text = more _ _ _ _ _ c.loop-byte.byte-index c.loop-byte-test.true c.loop-byte.invariant.text (ap (take 2) c.hex_of.ensures) c.put_first-at.ensures.text;
-  place = omega (arith, c.put_first-at.ensures.place, c.loop-byte.invariant.place);
+  text = more _ _ _ _ _ c.loop-byte.byte-index c.loop-byte-test.true c.loop-byte.invariant.text refl c.put_hex_pair-at.ensures.text;
+  place = omega (arith, c.put_hex_pair-at.ensures.place, c.loop-byte.invariant.place);
 }

@@ -2,7 +2,7 @@ use Rattle.std.proofs.Common.{◌≡◌, ◌+◌, ◌-◌, ◌<◌, ◌^◌, ◌
 use Rattle.std.proofs.lemmas.Fmt.{length-decimal-le}
 use Rattle.itoa.proofs.Decimal.{pair}
 use Rattle.x86_streams.proofs.LineLemmas.Place.{two_digits, counts_on, last_two}
-use Rattle.x86_streams.proofs.lines.place.Place.advance.Goals as goal
+use Rattle.x86_streams.proofs.lines.place.PlaceCounter.advance.Goals as goal
 
 pub set_last_digits-requires : goal.set_last_digits-requires
 set_last_digits-requires c =

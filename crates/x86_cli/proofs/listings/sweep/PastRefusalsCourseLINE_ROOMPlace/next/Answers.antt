@@ -1,7 +1,7 @@
 use Rattle.std.proofs.Common.{[], Ok, Err, ap, refl}
 use Rattle.x86_cli.specs.declared.listings.listing.Entry.TheVariants as entry
 use Rattle.x86_cli.proofs.ListingLemmas.Sweep.{sweep_end, sweep_line, sweep_undecided, some_bytes, some_refused}
-use Rattle.x86_cli.proofs.listings.sweep.PastRefusalsCourseLINE_ROOM.next.Goals as goal
+use Rattle.x86_cli.proofs.listings.sweep.PastRefusalsCourseLINE_ROOMPlace.next.Goals as goal
 
 pub returns-in-Ok-clause-next : goal.returns-in-Ok-clause-next
 returns-in-Ok-clause-next c = (
