@@ -3,29 +3,30 @@
 
     python3 tools/pages.py
 
-Examples of README.md and docs/USAGE.md: in a block of indented lines, each line after `$ ` is run by the shell, in a folder with `x86`,
-`show`, tools/ and examples/, and what it prints must be the lines below it. Where these are `...`, anything may be printed. In the table of statuses the
-example of a row must end with its status. Standard error must be empty, but for the
-usage line at status 2. Each run must end within a minute. The programs are the built ones, or those that PROGRAM and SHOW name; where one,
-or a tool of an example, is missing, the examples that need it are skipped with a line.
+Examples of README.md and docs/USAGE.md: in a block of indented lines, each line after `$ ` is run by the shell, in a folder with `x86`, `show`,
+tools/ and examples/, and what it prints must be the lines below it. Where these are `...`, anything may be printed. In the table of statuses the
+example of a row must end with its status. Standard error must be empty, but for the usage line at status 2. Each run must end within a minute. The
+programs are the built ones, or those that PROGRAM and SHOW name; where one, or a tool of an example, is missing, the examples that need it are
+skipped with a line.
 
-The examples of docs/USAGE.md are run again with other addresses in place of theirs, those of a library and of a kernel, and then with a text
-that comes in pieces; and its recipes over code of bash of one and of two megabytes: with twice the text no command may take more than three
-times the processor time, and a second, or 8 MB more memory. What they print of such code is held against objdump (tools/recipes.py).
+The examples of docs/USAGE.md are run again with other addresses in place of theirs, those of a library and of a kernel, and then with a text that
+comes in pieces; and its recipes over code of bash of one and of two megabytes: with twice the text no command may take more than three times the
+processor time, and a second, or 8 MB more memory. What they print of such code is held against objdump (tools/recipes.py).
 
-Examples of README.md, docs/GUIDE.md and crates/*/README.md: each indented block is in one of the files of `CODE`, or of `TESTS`, line by line,
-only further to the right, and so is what docs/GUIDE.md prints after a command (the gate compares it with what the programs print).
-Each crate of crates.txt has a README.md, of ten to thirty lines.
+Examples of README.md, docs/GUIDE.md and crates/*/README.md: each indented block is in one of the files of `CODE`, or of `TESTS`, line by line, only
+further to the right, and so is what docs/GUIDE.md prints after a command (the gate compares it with what the programs print). Each crate of
+crates.txt has a README.md, of ten to thirty lines.
 
-Quoted code of the pages of `QUOTING`: each indented line that isn't a command, nor of a drawing, is a line of some file of crates/, letter
-by letter. The links of the pages of `LINKING` are to files and headings that are there (tools/theorem.py writes their code). Each file that
-README.md, CONTRIBUTING.md or a page of docs/ names, by the end of its path, is there, but for those of docs/CHANGES.md.
+Quoted code of the pages of `QUOTING`: each indented line that isn't a command, nor of a drawing, is a line of some file of crates/, letter by letter.
+The links of the pages of `LINKING` are to files and headings that are there (tools/theorem.py writes their code). Each file that README.md,
+CONTRIBUTING.md or a page of docs/ names, by the end of its path, is there, but for those of docs/CHANGES.md.
 
 Figures of a page that are older than the code that they measure are named.
 
 Counts of rows, names, forms, C functions and worked encodings on README.md and the pages of `counts` are those of the sources.
 
-Reasons of tools/compare: those of tools/judge/reasons.c are the rows of their section of docs/DIFFERENCES.md. The modules of lemmas in docs/DECISIONS.md are those that proofs of x86_decode import.
+Reasons of tools/compare: those of tools/judge/reasons.c are the rows of their section of docs/DIFFERENCES.md. The modules of lemmas in
+docs/DECISIONS.md are those that proofs of x86_decode import.
 """
 
 import os
