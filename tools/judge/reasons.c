@@ -102,9 +102,9 @@ struct rule changed[] = {
     {"PINSRB and its neighbours", "66 0F3A: 20 22", "1:x"},
 
     /* Sizes. */
-    {"a register form keeps a size", "0: 00-03r 08-0Br 10-13r 18-1Br 20-23r 28-2Br 30-33r 38-3Br 63r 69r 6Br 80-8Fr C0r C1r C6r C7r D0-D3r F6r F7r FEr FF/014r "
-     "0F: 02r 03r 0Fr 10-1Fr 28-2Ar 2C-2Fr 40-76r 78-7Fr 90-9Fr A3-A5r AB-ADr AFr B0r B1r B3r B8-BDr C0-C6r D0-F6r F8-FFr 0F38: 00-FFr 0F3A: 00-FFr",
-     "size:form"},
+    {"a register form keeps a size", "0: 00-03r 08-0Br 10-13r 18-1Br 20-23r 28-2Br 30-33r 38-3Br 63r 69r 6Br 80-8Fr C0r C1r C6r C7r D0-D3r "
+     "F6r F7r FEr FF/014r 0F: 02r 03r 0Fr 10-1Fr 28-2Ar 2C-2Fr 40-76r 78-7Fr 90-9Fr A3-A5r AB-ADr AFr B0r B1r B3r B8-BDr C0-C6r D0-F6r F8-FFr "
+     "0F38: 00-FFr 0F3A: 00-FFr", "size:form"},
     {"a register form without a size", "0F: BAr; NP 0F: 70r 0F3A: 0Fr; F3 0F: 1E=FA 1E=FB 0F3A: F0r; 66 F2 0F: 78r; F2 0F38: F0r", "size:0"},
     {"0F BA", "0F: BAm", "size:vq"},
     {"PEXTRB and its neighbours", "66 0F3A: 14", "size:1"},
