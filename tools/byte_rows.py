@@ -6,8 +6,8 @@ A row that form and mod alone choose has its operands, and the sizes that its op
 import functools
 import re
 
-from form_cells import CRATES, groups, head, searched
-from form_rows import BYTES, PLAIN, Template, name_of, rows_of
+from form_rows import PLAIN, Template, groups, head, name_of, rows_of, searched, words
+from sources import CRATES
 
 NEXT = {"Bare": "Nothing", "Either": "Either", "Memory": "Chosen(Memory)", "Register": "Chosen(Register)"}  # what follows by the place of the row
 SEARCHED = "other!(Chosen(Search))"
@@ -27,14 +27,14 @@ def named_sizes():
 def decided(size, opcode):
     """A size, or the one that the operation decides."""
     of, other = named_sizes().get(size, ({}, None))
-    return size if other is None else BYTES[of.get(opcode, other)]
+    return size if other is None else words()[f"Bytes {of.get(opcode, other)}"][1]
 
 
 def byte_row(opcode, form, carried, ordinal, number):
     """The row of a byte."""
     if form in groups():
         return SEARCHED if form in searched() else f"other!(Chosen(Cells({1 + ordinal})))"
-    if head(form, 0)[0] == "Search":
+    if head(form, 0).startswith("Search"):
         return SEARCHED
     row = rows_of(PLAIN)[form][0]
     sizes = " ".join(decided(size, opcode) for size in row.sizes)

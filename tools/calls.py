@@ -8,6 +8,7 @@ Public is what another crate can name: a function of the root or of a public mod
 such a trait. Calls that implement a trait are the trait's. A law is a call that does nothing, whose contract is the law.
 """
 
+import functools
 import re
 import sys
 import textwrap
@@ -107,6 +108,7 @@ def module_file(crate, words):
     return CRATES / crate / "src" / (("/".join(words) or "lib") + ".rt")
 
 
+@functools.cache
 def public_items(crate):
     """The functions that another crate can name, each with its path, and the names of such types."""
     functions, types = {}, {}
@@ -165,11 +167,5 @@ def page():
     return text
 
 
-def main():
-    if sys.argv[1:] not in ([], ["--check"]):
-        print(__doc__, file=sys.stderr)
-        return 2
-    return write({PAGE: page()}, is_check=bool(sys.argv[1:]))
-
-
-sys.exit(main())
+if __name__ == "__main__":
+    write(lambda: {PAGE: page()})

@@ -1,6 +1,8 @@
-"""The rows of forms, as specs/Rows.antt of x86_operands and of x86_groups have them: for tools/tables.py, which writes their tables.
+"""The rows of forms, as specs/Rows.antt of x86_operands and of x86_groups have them, the heads of forms and the cells of groups: for tools/tables.py,
+which writes their tables.
 
-It also says with the row what the proof doesn't: a row that is never reached, and a form whose rows leave a gap.
+It also says with the row what the proof doesn't: a row that is never reached, and a form whose rows leave a gap. A row that is read at once wherever
+the form, mod and reg have it is named in a head or a cell. The others are searched.
 """
 
 import functools
@@ -8,30 +10,15 @@ import re
 import sys
 from dataclasses import dataclass
 from itertools import product
-from pathlib import Path
+
+from sources import CRATES
 
 CARRIED = 8  # how many numbers a form with a field can carry
 
-CRATES = Path(__file__).resolve().parent.parent / "crates"
 UNDECIDED = 63  # the size that means one that the processor decides
 # the function from a form to its rows, and the crate that has it
 PLAIN, GROUPS = "form_rows", "group_rows"
 CRATE_OF = {PLAIN: "x86_operands", GROUPS: "x86_groups"}
-# where a row is: the form of ModRM, reg and rm, with the numbers that follow the word
-WHERE = {
-    "bare": ("Bare", "Any", "Any"),
-    "mem": ("Memory", "Any", "Any"),
-    "reg": ("Register", "Any", "Any"),
-    "both": ("Either", "Any", "Any"),
-    "mem_at": ("Memory", "Is({0})", "Any"),
-    "reg_at": ("Register", "Is({0})", "Any"),
-    "both_at": ("Either", "Is({0})", "Any"),
-    "reg_from": ("Register", "From({0}, {1})", "Any"),
-    "both_from": ("Either", "From({0}, {1})", "Any"),
-    "reg_rm": ("Register", "Is({0})", "Is({1})"),
-    "rm_at": ("Register", "Any", "Is({0})"),
-    "strict_rm": ("Register", "Any", "ZeroIfStrict"),
-}
 # the marks that a row needs, and those that it is without: prefixes, and register 0 of the opcode byte
 WHEN = {
     "Always": ((), ()),
@@ -46,144 +33,119 @@ WHEN = {
     "RexR": (("R",), ()),
     "Register0": (("register 0",), ()),
 }
-KINDS = ("read", "changing", "suffixed", "refusal")
-# what a row takes before it is refused: nothing, or SIB and displacement
-TAKES = {"AtModRM": "Zero", "AfterAddress": ["One", "M"]}
-# the words for a form whose rows are one that is read, and one that is refused elsewhere, with what that one takes
-WHOLE = {
-    "without_modrm": ("bare", None),
-    "with_modrm": ("both", None),
-    "with_memory": ("mem", "AtModRM"),
-    "with_register": ("reg", "AfterAddress"),
-}
 # the words of a letter's definition, and their types
 TYPE_OF = {"slot": "RegisterSlot", "class": "RegisterClass"}
 # the letters that are the operand of reg or of rm, each with its width
 MM = {"Gmm": ("G", "Mm"), "Emm": ("E", "Mm"), "Umm": ("E", "Mm"), "StRm": ("E", "St")}
-# the words of the sizes in bytes
-BYTES = {0: "Zero", 1: "One", 2: "Two", 4: "Four", 8: "Eight", 10: "Ten", 16: "Sixteen", 48: "FortyEight", 64: "SixtyFour"}
 # the last operands that are read at once
 AT_ONCE = ("I8", "U8", "U16", "I32", "Iv", "Ivq", "Ip", "ConstantI8", "ConstantU8", "Implied")
+
 
 @dataclass
 class Row:
     text: str
     place: str
-    reg: str
-    rm: str
+    reg: object  # a word, or a list of it and its numbers, as `rm`
+    rm: object
     when: object  # a word, or Opcode with a name
+    names: object  # None where a last byte names the operation
     operands: object
-    names: object = None  # of a row that is read, unless a last byte names its operation
-    sizes: tuple = None  # of a row that isn't refused
-    change: str = None  # of the answer's prefixes
-    error: str = None  # of a row that is refused
+    sizes: list
+    change: str  # of the answer's prefixes
+    error: str  # None of a row that is read
 
     def marks(self):
         """The marks that the row needs, and those that it is without."""
         return WHEN[self.when] if isinstance(self.when, str) else ((f"opcode.{self.when[1]}",), ())
 
+    def is_in(self, memory):
+        return {"Memory": memory, "Register": not memory}.get(self.place, True)
+
     def is_at(self, reg):
-        first, *last = numbers_in(self.reg) or [0, 7]
+        first, *last = [0, 7] if self.reg == "Any" else [int(number) for number in self.reg[1:]]
         return first <= reg <= (last or [first])[0]
 
     def is_named(self, reg, rm):
-        if self.names is None or isinstance(self.names, str):
-            return True
-        word, *names = self.names
-        return {"Name": True, "by_reg": names[reg % len(names)] != "none", "by_rm": names[rm % len(names)] != "none"}[word]
+        at = {"by_reg": reg, "by_rm": rm}.get(self.names[0]) if self.named() else None
+        return at is None or self.named()[at] != "none"
 
     def holds(self, memory, reg, rm, strict, marks):
-        placed = {"Memory": memory, "Register": not memory}.get(self.place, True)
-        fits = {"Any": True, "ZeroIfStrict": rm == 0 or not strict}.get(self.rm, numbers_in(self.rm) == [rm])
+        fits = self.rm == "Any" or (rm == 0 or not strict if self.rm == "ZeroIfStrict" else self.rm[1] == str(rm))
         needs, forbids = self.marks()
         prefixed = marks.issuperset(needs) and marks.isdisjoint(forbids)
-        return placed and fits and prefixed and self.is_at(reg) and self.is_named(reg, rm)
+        return self.is_in(memory) and fits and prefixed and self.is_at(reg) and self.is_named(reg, rm)
 
     def is_sure(self):
         """Whether the row is read at once wherever its place, reg and names are."""
-        read = self.error is None and self.names is not None and self.change is None
+        read = self.error is None and self.names is not None and self.change == "Keeps"
         return read and self.when == "Always" and self.rm == "Any" and Template(self.operands).is_plain()
 
+    def named(self):
+        """The opcodes in the place of a name, or `none`; nothing where the name is that of the opcode map."""
+        return self.names[1:] if isinstance(self.names, list) else []
+
     def opcodes(self):
-        """The opcodes that the row names."""
-        named = self.names[1:] if isinstance(self.names, list) else []
-        return [name for name in named if name != "none"] + (self.when[1:] if isinstance(self.when, list) else [])
-
-
-def numbers_in(text):
-    return [int(number) for number in re.findall(r"\d+", text)]
+        """The opcodes that the row has as numbers, or `none`."""
+        return self.named() + (self.when[1:] if isinstance(self.when, list) else [])
 
 
 def parsed(tokens):
-    """The words of a row; those in parentheses are a list."""
-    words = []
-    while tokens:
-        token = tokens.pop(0)
-        if token == ")":
-            break
-        words.append(parsed(tokens) if token == "(" else token)
-    return words
+    """The term of some tokens up to a closing parenthesis: a word, or a list of terms. One of an infix operator begins with that."""
+    terms, operator = [], []
+    while tokens and not operator and (token := tokens.pop(0)) != ")":
+        if token in (",", "∷"):
+            operator = [token, parsed(tokens)]
+        else:
+            terms.append(parsed(tokens) if token == "(" else token)
+    left = terms[0] if len(terms) == 1 else terms
+    return [operator[0], left, operator[1]] if operator else left
 
 
-def where(words):
-    """The form of ModRM, reg and rm."""
-    word, *numbers = [words] if isinstance(words, str) else words
-    return [part.format(*numbers) for part in WHERE[word]]
+def term(text):
+    return parsed(re.findall(r"[(),∷]|[^\s(),∷]+", text)) or text
 
 
-def size(words):
-    """The word of a size."""
-    word, *of = words if isinstance(words, list) else words.split()
-    return BYTES[int(of[0])] if of else word.removeprefix("of_").capitalize()
+@functools.cache
+def words():
+    """The words of specs/Words.antt for where a row is, for sizes and for rows: each as its arguments and the term that it means."""
+    text = re.sub(r"\b(?:regs|rms|sizes)\.", "", (CRATES / "x86_operands" / "specs" / "Words.antt").read_text())
+    found = re.findall(r"^abbrev pub (\w+) : (?:.*(?:Where|Size|TemplateRow)|Template)\n\1(.*?) =((?: .*\n|\n)(?: +.*\n)*)", text, re.M)
+    sizes = {f"Bytes {count}": (["count"], size) for count, size in re.findall(r"\((\d+), (\w+)\)", text)}
+    return sizes | {word: (names.split(), term(meant)) for word, names, meant in found if not re.search("record|λ", meant)}
 
 
-def sizes(words):
-    """The memory size in the memory form, and in the register form."""
-    if isinstance(words, str):
-        return (size(words.removeprefix("size_")),) * 2
-    word, *of = words
-    if word == "or_v":
-        return size(of[0]), "V"
-    if word in ("size", "size_of"):
-        return (BYTES[int(of[0])] if word == "size" else of[0],) * 2
-    memory, register = " ".join(words).split(", ")
-    return size(memory), size(register)
+def put(meant, arguments):
+    """A term with these terms in place of some words."""
+    return [put(each, arguments) for each in meant] if isinstance(meant, list) else arguments.get(meant, meant)
 
 
-def row(text, words):
-    """The row of some words: where it is, the prefixes, and what it has there."""
-    kind, *words = words
-    change = words.pop(0) if kind == "changing" else None
-    if kind == "otherwise":
-        kind, words = "refusal", ["both", "Always", *words]
-    at, when, *rest = words
-    if kind not in KINDS or (when not in WHEN if isinstance(when, str) else when[0] != "Opcode"):
-        raise ValueError
-    if kind == "refusal":
-        fault, operands = rest
-        return Row(text, *where(at), when, TAKES[operands] if isinstance(operands, str) else operands, error=fault)
-    names, operands, sized = [None, *rest] if kind == "suffixed" else rest
-    return Row(text, *where(at), when, operands, names, sizes(sized), change)
+def reduced(of):
+    """A term in which no word of specs/Words.antt is left."""
+    head, *terms = of if isinstance(of, list) else [of]
+    terms = [reduced(each) for each in terms]
+    names, meant = words().get(f"Bytes {terms[0]}" if head == "Bytes" else head, ([], None))
+    if meant and len(names) == len(terms):
+        return reduced(put(meant, dict(zip(names, terms))))
+    return [head, *terms] if terms else head
+
+
+def listed(rows):
+    """The terms of a list, or of a row alone."""
+    return [rows[1], *listed(rows[2])] if rows[0] == "∷" else [rows] if rows != "[]" else []
 
 
 def rows_in(text):
     """The rows of some text: a line each, or a word for all of a form."""
     for line in text.removesuffix("∷ []").split("∷"):
-        words = parsed(re.findall(r"[()]|[^\s()]+", line))
-        try:
-            if words[0] == "named_by_v":
-                for when, name in zip(["RexW", "With66", "Always"], [words[3], words[1], words[2]]):
-                    yield row(line.strip(), ["read", "bare", when, ["Name", name], "Zero", ["size", "0"]])
-                continue
-            if words[0] not in WHOLE:
-                yield row(line.strip(), words)
-                continue
-            at, takes = WHOLE[words[0]]
-            yield row(line.strip(), ["read", at, "Always", "Own", *words[1:]])
-            if takes:
-                yield row(line.strip(), ["otherwise", "BadOperand", takes])
-        except (KeyError, IndexError, ValueError):
-            sys.exit(f"tables.py: not read: {line.strip()}")
+        for each in listed(reduced(term(line))):
+            match each:
+                case ["row", ["at", place, reg, rm], when, names, operands, [",", str() as memory, str() as register], change, verdict] if (
+                    when[0] == "Opcode" or str(when) in WHEN
+                ):
+                    error = verdict[1] if isinstance(verdict, list) else None
+                    yield Row(line.strip(), place, reg, rm, when, names if verdict == "Accepts" else None, operands, [memory, register], change, error)
+                case _:
+                    sys.exit(f"tables.py: not read: {line.strip()}")
 
 
 @functools.cache
@@ -196,10 +158,14 @@ def rows_of(function):
 
 
 @functools.cache
+def forms_of(file, definition, answer):
+    """The forms for which a definition has this answer."""
+    return {*re.findall(rf"^{definition} form\.(\w+) = {answer}$", (CRATES / file).read_text(), re.M)}
+
+
 def without_mod():
     """The groups of which every mod is a register form."""
-    text = (CRATES / "x86_groups" / "specs" / "Groups.antt").read_text()
-    return {*re.findall(r"^group_modrm form\.(\w+) = Registers$", text, re.M)}
+    return forms_of("x86_groups/specs/Groups.antt", "group_modrm", "Registers")
 
 
 def name_of(form):
@@ -252,24 +218,18 @@ def constant(word):
     return re.sub(r"(?<=[a-z])(?=[A-Z])", "_", word).upper()
 
 
-def typed(text):
+def code(of):
+    """A term as code."""
+    text = of if isinstance(of, str) else f"{of[0]}({', '.join(of[1:])})"
     return re.sub(r"(\w+)\.(?=\w)", lambda kind: f"{TYPE_OF[kind[1]]}::", text)
 
 
-def spelling(word):
-    """What a constant is."""
-    letter, *of = letters()[word]
-    return f"{letter}({', '.join(map(typed, of))})"
-
-
-def letter(words):
+def letter(of):
     """An operand as the table has it."""
-    if isinstance(words, str):
-        return constant(words) if words in letters() else words
-    word, *of = words
-    of = [*of, "0"] if word == "Z" else of
-    slot = {"Z": "RegisterSlot::", "Implied": "RegisterSlot::", "At": "PointerSlot::"}.get(word, "")
-    return typed(f"{word}({slot}{', '.join(of)})")
+    if isinstance(of, str):
+        return constant(of) if of in letters() else of
+    slot = {"Z": "RegisterSlot::", "Implied": "RegisterSlot::", "At": "PointerSlot::"}.get(of[0], "")
+    return code([of[0], slot + of[1], *of[2:], *["0"] * (of[0] == "Z")])
 
 
 class Template:
@@ -277,8 +237,8 @@ class Template:
 
     def __init__(self, operands):
         self.reg, self.of_opcode, self.rm, self.last, order = "B", False, None, [], []
-        for words in operands[1:] if isinstance(operands, list) else []:
-            head, *of = letters().get(words, [words]) if isinstance(words, str) else words
+        for operand in operands[1:] if isinstance(operands, list) else []:
+            head, *of = letters().get(operand, [operand]) if isinstance(operand, str) else operand
             of = [each.removeprefix("width.") for each in of]
             if head in MM:
                 head, *of = MM[head]
@@ -290,7 +250,7 @@ class Template:
                 order.append("G" if head == "G" else "R")
             else:
                 order.append("IX"[len(self.last)])
-                self.last.append((head, letter(words)))
+                self.last.append((head, letter(operand)))
         self.order = "_".join(order) or "NO"
 
     def is_plain(self):
@@ -301,32 +261,21 @@ class Template:
         return f"{self.order} {self.reg} {str(self.of_opcode).lower()} {self.rm or 'B'} {last}, {extra}"
 
 
-def names(words, numbers):
-    if isinstance(words, str):
-        return words
-    listed = ", ".join("0" if name == "none" else str(numbers[name]) for name in words[1:])
-    return {"Name": f"Name({listed})", "by_reg": f"ByReg([{listed}])", "by_rm": f"ByRm([{listed}])"}[words[0]]
+def names(each, numbers):
+    listed = ", ".join("0" if name == "none" else str(numbers[name]) for name in each.named())
+    return {"Name": f"Name({listed})", "by_reg": f"ByReg([{listed}])", "by_rm": f"ByRm([{listed}])"}.get(each.names[0], each.names)
 
 
 def entry(each, numbers):
     """A row as the table has it."""
     when = each.when if isinstance(each.when, str) else f"Opcode({numbers[each.when[1]]})"
-    at = f"{each.place} Reg::{each.reg}, Rm::{each.rm}; {when}"
-    operands = Template(each.operands)
+    at, operands, sizes = f"{each.place} Reg::{code(each.reg)}, Rm::{code(each.rm)}; {when}", Template(each.operands), " ".join(each.sizes)
     if each.error:
         return f"refused!({at}; {operands}; {each.error})"
-    sizes = " ".join(each.sizes)
     if each.names is None:
         return f"suffixed!({at}; {operands}; {sizes})"
-    change = f"; {each.change}" if each.change else ""
-    return f"read!({at}; {names(each.names, numbers)}; {operands}; {sizes}{change})"
-
-
-def spelled(each):
-    """The names that a row has as numbers."""
-    named = each.names[1:] if isinstance(each.names, list) else []
-    named = named + (each.when[1:] if isinstance(each.when, list) else [])
-    return " ".join("-" if name == "none" else name for name in named)
+    change = "" if each.change == "Keeps" else f"; {each.change}"
+    return f"read!({at}; {names(each, numbers)}; {operands}; {sizes}{change})"
 
 
 def noted(text, note):
@@ -344,13 +293,71 @@ def placed(function, forms):
     return answer
 
 
+def by_ordinal(forms, text_of):
+    """A line of a table for each ordinal. `forms` has the forms in their order, each with whether it carries a number."""
+    return [f"    {text_of(form)}, // {form}" for form, carries in forms.items() for _ in range(CARRIED if carries else 1)]
+
+
 def tables(function, forms, numbers):
     """The constants of a table of rows, for operands that have a word; the rows of all forms, after that of a form that has none; and the first row of each
     ordinal, with the one after its last."""
     every, spans = rows_of(function), placed(function, forms)
     operands = {text for each in every.values() for row in each for _, text in Template(row.operands).last}
-    constants = [f"{constant(word)}: OperandEncoding = {spelling(word)};" for word in letters() if constant(word) in operands]
+    constants = [f"{constant(word)}: OperandEncoding = {code(of)};" for word, of in letters().items() if constant(word) in operands]
     rows = [(entry(every["f"][0], numbers), "")]
-    rows += [(entry(each, numbers), f"{name_of(form)} {spelled(each)}".strip()) for form in forms for each in every.get(form, [])]
-    lines = [f"    {spans[form]}, // {form}" for form in forms for _ in range(CARRIED if forms[form] else 1)]
-    return constants, {"ROWS": [f"    {noted(*row)}" for row in rows], "SPANS": lines}
+    for form, each in ((form, each) for form in forms for each in every.get(form, [])):
+        rows.append((entry(each, numbers), " ".join([name_of(form), *("-" if name == "none" else name for name in each.opcodes())])))
+    return constants, {"ROWS": [f"    {noted(*row)}" for row in rows], "SPANS": by_ordinal(forms, spans.get)}
+
+
+# ---- Heads and cells ----
+
+
+def groups():
+    return forms_of("x86_forms/specs/Groups.antt", "is_group", "true")
+
+
+def searched():
+    """The groups that have no cells."""
+    return forms_of("x86_operands/specs/Forms.antt", "is_searched", "true")
+
+
+def head(form, first):
+    """What follows the opcode byte, and the row."""
+    if form in groups():
+        return "Search 0" if form in searched() else "Cells 0"
+    if form not in rows_of(PLAIN):
+        sys.exit(f"tables.py: {form} has no rows in specs/Rows.antt of x86_operands")
+    row = rows_of(PLAIN)[form][0]
+    is_direct = row.is_sure() and row.reg == "Any" and row.names == "Own"
+    return f"{'Nothing' if row.place == 'Bare' else 'Fields'} {first}" if is_direct else "Search 0"
+
+
+def heads(forms):
+    """The heads of the forms in their order."""
+    spans = placed(PLAIN, forms)
+    return ["    head!(Search 0), // the number 0, which no form has", *by_ordinal(forms, lambda form: f"head!({head(form, spans[form][0])})")]
+
+
+def cell(rows, first, memory, reg, numbers):
+    """The row that is surely first, and its operation."""
+    for at, row in enumerate(rows):
+        if row.is_in(memory) and row.is_at(reg) and (row.is_named(reg, 0) or row.names[0] == "by_rm"):
+            if not row.is_sure() or row.names == "Own":
+                break
+            if row.names[0] == "by_rm":
+                return f"cell!({first + at} 0)", "by rm"
+            name = row.named()[reg if row.names[0] == "by_reg" else 0]
+            return f"cell!({first + at} {numbers[name]})", name
+    return "cell!(0 0)", "-"
+
+
+def cells(forms, numbers):
+    """Where the cells of each form are, and the cells of each group that has some: of the memory forms by reg, then of the register forms."""
+    spans, of = placed(GROUPS, forms), [form for form in forms if form in groups() - searched()]
+    places = {form: 1 + at for at, form in enumerate(of)}
+    lines = ["    [", *["        cell!(0 0),"] * 16, "    ],"]
+    for form in of:
+        here = [cell(rows_of(GROUPS)[form], spans[form][0], memory, reg, numbers) for memory in (True, False) for reg in range(8)]
+        lines += ["    [", *(f"        {noted(*each)}" for each in here), f"    ], // {name_of(form)}"]
+    return {"CELLS_AT": ["    0, // the number 0, which no form has", *by_ordinal(forms, lambda form: places.get(form, 0))], "CELLS": lines}

@@ -3,51 +3,52 @@
 
     python3 tools/pages.py
 
-Examples of README.md and docs/USAGE.md: in a block of indented lines, each line after `$ ` is run by the shell, in a folder with `x86`,
-`show`, tools/ and examples/, and what it prints must be the lines below it. Where these are `...`, anything may be printed. In the table of statuses the
-example of a row must end with its status. Standard error must be empty, but for the
-usage line at status 2. Each run must end within a minute. The programs are the built ones, or those that PROGRAM and SHOW name; where one,
-or a tool of an example, is missing, the examples that need it are skipped with a line.
+Examples of README.md and docs/USAGE.md: in a block of indented lines, each line after `$ ` is run by the shell, in a folder with `x86`, `show`,
+tools/ and examples/, and what it prints must be the lines below it. Where these are `...`, anything may be printed. In the table of statuses the
+example of a row must end with its status. Standard error must be empty, but for the usage line at status 2. Each run must end within a minute. The
+programs are the built ones, or those that PROGRAM and SHOW name; where one, or a tool of an example, is missing, the examples that need it are
+skipped with a line.
 
-The examples of docs/USAGE.md are run again with other addresses in place of theirs, those of a library and of a kernel, and then with a text
-that comes in pieces; and its recipes over code of bash of one and of two megabytes: with twice the text no command may take more than three
-times the processor time, and a second, or 8 MB more memory. What they print of such code is held against objdump (tools/recipes.py).
+The examples of docs/USAGE.md are run again with other addresses in place of theirs, those of a library and of a kernel, and then with a text that
+comes in pieces; and its recipes over code of bash of one and of two megabytes: with twice the text no command may take more than three times the
+processor time, and a second, or 8 MB more memory. What they print of such code is held against objdump (tools/recipes.py).
 
-Examples of README.md, docs/GUIDE.md and crates/*/README.md: each indented block is in one of the files of `CODE`, or of `TESTS`, line by line,
-only further to the right, and so is what docs/GUIDE.md prints after a command (the gate compares it with what the programs print).
-Each crate of crates.txt has a README.md, of ten to thirty lines.
+Examples of README.md, docs/GUIDE.md and crates/*/README.md: each indented block is in one of the files of `CODE`, or of `TESTS`, line by line, only
+further to the right, and so is what docs/GUIDE.md prints after a command (the gate compares it with what the programs print). Each crate of
+crates.txt has a README.md, of ten to thirty lines.
 
-Quoted code of the pages of `QUOTING`: each indented line that isn't a command, nor of a drawing, is a line of some file of crates/, letter
-by letter. The links of the pages of `LINKING` are to files and headings that are there (tools/theorem.py writes their code). Each file that
-README.md, CONTRIBUTING.md or a page of docs/ names, by the end of its path, is there, but for those of docs/CHANGES.md.
+Quoted code of the pages of `QUOTING`: each indented line that isn't a command, nor of a drawing, is a line of some file of crates/, letter by letter.
+The links of the pages of `LINKING` are to files and headings that are there (tools/theorem.py writes their code). Each file that README.md,
+CONTRIBUTING.md or a page of docs/ names, by the end of its path, is there, but for those of docs/CHANGES.md.
 
 Figures of a page that are older than the code that they measure are named.
 
 Counts of rows, names, forms, C functions and worked encodings on README.md and the pages of `counts` are those of the sources.
 
-Reasons of tools/compare: those of tools/judge/reasons.c are the rows of their section of docs/DIFFERENCES.md. The modules of lemmas in docs/DECISIONS.md are those that proofs of x86_decode import.
+Reasons of tools/compare: those of tools/judge/reasons.c are the rows of their section of docs/DIFFERENCES.md. The modules of lemmas in
+docs/DECISIONS.md are those that proofs of x86_decode import.
 """
 
-import functools
 import os
 import re
 import shutil
-import signal
 import subprocess
 import sys
 import tempfile
-import time
+import textwrap
 from pathlib import Path
 
 sys.dont_write_bytecode = True
 import recipes
 import tables
 from sources import CODE as CODE_PATHS
-from sources import TOP, anchor, built, first_cells, git, packages, section, worked_lines
+from sources import TOP, anchor, built, git, packages, section, source_texts, unlike_rows, worked_lines
+from sources import reasons as reasons_of_zydis
 
 PROGRAM, SHOW = built("x86", "PROGRAM"), built("x86_show", "SHOW")
 ENVIRONMENT = os.environ | {"SHOW": "./show"}  # for `dis`
-SECONDS = 60
+# A command that takes longer than a minute is killed, with all that it started.
+WITHIN_TIME, KILLED = ["timeout", "-s", "KILL", "60", "sh", "-c"], -9
 BASE, LIBRARY, KERNEL = 0x401000, 0x7FFFF7A00000, 0xFFFFFFFF81000000
 IN_ONE = """#!/bin/sh
 [ "$1" != try ] || shift
@@ -60,37 +61,29 @@ IN_PIECES = """#!/bin/sh
 """
 BIG = 1000000
 TIMES, SPARE_SECONDS, SPARE_KILOBYTES = 3, 1, 8192
-TESTS = ["crates/uses/src"]
+TESTS = ["crates/uses/src/**/*"]
 CODE = [*TESTS, "crates/uses/stdout"]
 QUOTING = ["docs/ROWS.md", "docs/ENCODING.md", "docs/ARCHITECTURE.md", "CONTRIBUTING.md"]
 TOOLS_OF_COSTS = "objcopy xxd readelf perl"
 LINKING = ["docs/THEOREM.md", "docs/DEFINITIONS.md"]
+# The files of the repository, and what is beside them, a line each.
+KNOWN = "".join(f"{path}\n" for path in TOP.rglob("*.*"))
 NAMING = [f"docs/{page.name}" for page in sorted((TOP / "docs").glob("*.md")) if page.name != "CHANGES.md"]
 
 
 def blocks(page, heading=""):
     """The blocks of indented lines of a page, or of its section with a heading, each as its lines."""
-    block, text = [], (TOP / page).read_text()
-    text = section(text, heading) if heading else text
-    for line in [*text.splitlines(), "end"]:
-        if line.startswith("    "):
-            block.append(line[4:])
-        elif line == "" and block:
-            block.append("")
-        elif block:
-            yield "\n".join(block).rstrip("\n").split("\n")
-            block = []
+    text = (TOP / page).read_text()
+    for block in re.findall(r"^ {4}.*\n(?:(?: {4}.*)?\n)*", section(text, heading) + "\n" if heading else text, re.M):
+        yield re.sub("^ {4}", "", block.rstrip("\n"), flags=re.M).split("\n")
 
 
 def examples(page, heading=""):
     """The commands of a page, each with the text that it prints. A command continues in lines after `> `."""
     for block in blocks(page, heading):
         if block[0].startswith("$ "):
-            for part in re.split(r"^\$ ", "\n".join(block), flags=re.M)[1:]:
-                command, *rest = part.split("\n")
-                while rest and rest[0].startswith("> "):
-                    command += "\n" + rest.pop(0)[2:]
-                yield command, "\n".join(rest).rstrip("\n")
+            for command, printed in re.findall(r"^\$ (.*(?:\n> .*)*)((?:\n(?!\$ ).*)*)", "\n".join(block), re.M):
+                yield command.replace("\n> ", "\n"), printed[1:].rstrip("\n")
 
 
 def lacking(command):
@@ -102,13 +95,8 @@ def lacking(command):
 
 def run(command, folder):
     """What a command writes to standard output and to standard error, and its status, which is None where it took too long."""
-    how = {"stdin": subprocess.DEVNULL, "stdout": subprocess.PIPE, "stderr": subprocess.PIPE, "text": True}
-    started = subprocess.Popen(["sh", "-c", command], cwd=folder, env=ENVIRONMENT, start_new_session=True, **how)
-    try:
-        return (*started.communicate(timeout=SECONDS), started.returncode)
-    except subprocess.TimeoutExpired:
-        os.killpg(started.pid, signal.SIGKILL)
-        return (*started.communicate(), None)
+    ran = subprocess.run([*WITHIN_TIME, command], cwd=folder, env=ENVIRONMENT, stdin=subprocess.DEVNULL, capture_output=True, text=True)
+    return ran.stdout, ran.stderr, None if ran.returncode == KILLED else ran.returncode
 
 
 def differs(page, command, what, got, wanted):
@@ -174,17 +162,11 @@ def run_statuses(page):
 
 def costs(command, folder):
     """The processor seconds and the most kilobytes of any process of a command, or None where it took too long."""
-    silent = {"stdin": subprocess.DEVNULL, "stdout": subprocess.DEVNULL, "stderr": subprocess.DEVNULL}
-    started, ends = subprocess.Popen(["sh", "-c", command], cwd=folder, env=ENVIRONMENT, start_new_session=True, **silent), time.monotonic() + SECONDS
-    while time.monotonic() < ends:
-        pid, started.returncode, usage = os.wait4(started.pid, os.WNOHANG)
-        if pid:
-            return usage.ru_utime + usage.ru_stime, usage.ru_maxrss
-        started.returncode = None
-        time.sleep(0.02)
-    os.killpg(started.pid, signal.SIGKILL)
-    started.wait()
-    return None
+    silent = dict.fromkeys(("stdin", "stdout", "stderr"), subprocess.DEVNULL)
+    started = subprocess.Popen([*WITHIN_TIME, command], cwd=folder, env=ENVIRONMENT, **silent)
+    _, status, usage = os.wait4(started.pid, 0)
+    started.returncode = os.waitstatus_to_exitcode(status)
+    return None if started.returncode == KILLED else (usage.ru_utime + usage.ru_stime, usage.ru_maxrss)
 
 
 def costs_of_recipes(page, code):
@@ -202,9 +184,6 @@ def costs_of_recipes(page, code):
 
 def measure_recipes(page):
     """Compares what the recipes cost over some code and over twice as much, and answers how many cost more than in proportion."""
-    if lacking(TOOLS_OF_COSTS) or not os.access("/bin/bash", os.R_OK):
-        print(f"pages: skipped, {', '.join(lacking(TOOLS_OF_COSTS)) or '/bin/bash'} is missing: what the recipes cost", file=sys.stderr)
-        return 0
     with tempfile.TemporaryDirectory() as folder:
         subprocess.run(["objcopy", "-O", "binary", "-j", ".text", "/bin/bash", "code"], cwd=folder, check=True)
         code = (Path(folder) / "code").read_bytes() * 3
@@ -218,25 +197,20 @@ def measure_recipes(page):
 
 
 def try_recipes(page):
-    """Tries the recipes over a stranger's code, and answers how many aren't right."""
-    if lacking(TOOLS_OF_COSTS) or not os.access("/bin/bash", os.R_OK):
+    """Tries the recipes over a stranger's code, and answers how many cost too much or aren't right."""
+    if lacks := lacking(TOOLS_OF_COSTS) + ["/bin/bash"] * (not os.access("/bin/bash", os.R_OK)):
+        print(f"pages: skipped, {', '.join(lacks)} is missing: what the recipes cost", file=sys.stderr)
         return 0
     with tempfile.TemporaryDirectory() as folder:
         program_in(folder)
-        return recipes.tried(page, [command for command, _ in examples(page, "Recipes") if not lacking(command)], run, folder)
-
-
-def dedent(lines):
-    """The lines without the indentation that all of them have, as one text."""
-    least = min((len(line) - len(line.lstrip()) for line in lines if line), default=0)
-    return "\n".join(line[least:] for line in lines)
+        return measure_recipes(page) + recipes.tried(page, [command for command, _ in examples(page, "Recipes") if not lacking(command)], run, folder)
 
 
 def occurs_in(block, text):
     """Whether the lines occur in the text, one below the other, all as far to the right as the first."""
-    lines = text.split("\n")
+    lines, wanted = text.split("\n"), textwrap.dedent("\n".join(block))
     spans = (lines[at : at + len(block)] for at, line in enumerate(lines) if line.endswith(block[0]))
-    return any(dedent(span) == dedent(block) for span in spans)
+    return any(textwrap.dedent("\n".join(span)) == wanted for span in spans)
 
 
 # ---- What a page has that isn't so: each answers sentences ----
@@ -244,8 +218,7 @@ def occurs_in(block, text):
 
 def guide(page, code, has_outputs=False):
     """The examples of a page that aren't in the files of code, and perhaps what it prints after commands."""
-    files = [file for name in code for file in ([TOP / name] if (TOP / name).is_file() else sorted((TOP / name).rglob("*"))) if file.is_file()]
-    texts = [file.read_text() for file in files]
+    texts = [file.read_text() for pattern in code for file in TOP.glob(pattern) if file.is_file()]
     wanted = [block for block in blocks(page) if not block[0].startswith("$ ")]
     wanted += [printed.split("\n") for _, printed in examples(page) if has_outputs and printed]
     return ["no test has these lines:\n" + "\n".join(block) for block in wanted if not any(occurs_in(block, text) for text in texts)]
@@ -253,8 +226,7 @@ def guide(page, code, has_outputs=False):
 
 def quotes(page):
     """The quoted lines of code of a page that are in no source."""
-    files = [file for ending in ("*.rt", "*.antt", "*.edit") for file in (TOP / "crates").rglob(ending) if "out" not in file.parts]
-    lines = {line.strip() for file in files for line in file.read_text().splitlines()}
+    lines = {line.strip() for text in source_texts("src", "specs", "proofs", "must-fail").values() for line in text.splitlines()}
     quoted = [line for block in blocks(page) if not block[0].startswith("$ ") and "─" not in block[0] for line in block]
     return [f"no source has this line: {line}" for line in quoted if line and line.strip() not in lines]
 
@@ -275,30 +247,23 @@ def links(page):
             yield f"a link to nothing: {link} {heading}"
 
 
-@functools.cache
-def known():
-    """The files of the repository, and what is beside them, a line each."""
-    return "".join(f"{path}\n" for path in TOP.rglob("*.*"))
-
-
 def paths(page):
     """The files that a page names, by the end of their paths, by tools/ or by docs/, and that aren't there."""
     text = (TOP / page).read_text()
     files = re.findall(r"(?<![\w/])([\w/-]*\w\.(?:rt|antt|py|c|sh|txt))\b", text.replace("bin/rtlib.py", "").replace("../", ""))
-    lost = [name for name in files if f"/{name}\n" not in known()] + [name for name in re.findall(r"\b(?:tools|docs)/[\w./-]*\w", text) if not (TOP / name).exists()]
+    lost = [name for name in files if f"/{name}\n" not in KNOWN] + [name for name in re.findall(r"\b(?:tools|docs)/[\w./-]*\w", text) if not (TOP / name).exists()]
     return [f"no file is {name}" for name in dict.fromkeys(lost)]
 
 
 def reasons(page):
     """The reasons of tools/compare, and the rows of their section, that one of the two alone has."""
-    names = re.findall(r'^    \{"([^"]+)", "', (TOP / "tools" / "judge" / "reasons.c").read_text(), re.M)
-    unlike = {*names} ^ first_cells((TOP / page).read_text(), "Other answers than zydis")
+    unlike = unlike_rows(reasons_of_zydis(), page, "Other answers than zydis")
     return [f"a reason of tools/judge/reasons.c without a row, or a row without one: {name}" for name in unlike]
 
 
 def lemmas(page):
     """The modules of lemmas that proofs of x86_decode import, and the rows of their table, that one of the two alone has."""
-    texts = "\n".join(path.read_text() for path in (TOP / "crates" / "x86_decode" / "proofs").rglob("*.antt"))
+    texts = "\n".join(text for path, text in source_texts("proofs").items() if "x86_decode" in path.parts)
     imported = {*re.findall(r"^use Rattle\.(?!x86_decode)(x86_\w+)\.proofs\.(\w+)", texts, re.M)}
     rows = re.findall(r"^\| `(x86_\w+)` ((?:\w+Lemmas(?:, )?)+) \|", (TOP / page).read_text(), re.M)
     unlike = imported ^ {(crate, module) for crate, modules in rows for module in modules.split(", ")}
@@ -347,10 +312,9 @@ def main():
     readmes = [f"crates/{crate}/README.md" for crate in re.findall(r"^(\w+)\b.*:", (TOP / "crates.txt").read_text(), re.M)]
     wrong = read(readmes)
     if os.access(PROGRAM, os.X_OK):
-        wrong += run_examples("README.md") + sum(run_examples(page) for page in readmes if (TOP / page).exists())
-        wrong += run_examples("docs/USAGE.md") + run_statuses("docs/USAGE.md")
+        wrong += sum(run_examples(page) for page in ("README.md", "docs/USAGE.md", *readmes) if (TOP / page).exists())
         wrong += run_examples("docs/USAGE.md", LIBRARY, in_pieces=True) + run_examples("docs/USAGE.md", KERNEL)
-        wrong += measure_recipes("docs/USAGE.md") + try_recipes("docs/USAGE.md")
+        wrong += run_statuses("docs/USAGE.md") + try_recipes("docs/USAGE.md")
     else:
         print(f"pages: skipped, {PROGRAM} is missing: the examples", file=sys.stderr)
     for page in ("docs/PERFORMANCE.md", "docs/COMPARED.md", "docs/DIFFERENCES.md", "tools/budgets.txt"):

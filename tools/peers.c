@@ -88,20 +88,6 @@ static size_t decode(const uint8_t *bytes, size_t count)
 }
 #endif
 
-/* All that a file holds, and how much that is. */
-static uint8_t *contents(FILE *file, size_t *count)
-{
-    size_t room = 1 << 20, held = 0, got;
-    uint8_t *bytes = malloc(room);
-    while (bytes != NULL && (got = fread(bytes + held, 1, room - held, file)) > 0) {
-        held += got;
-        if (held == room) bytes = realloc(bytes, room *= 2);
-    }
-    if (bytes == NULL) exit(2);
-    *count = held;
-    return bytes;
-}
-
 static int digit(uint8_t c)
 {
     return c >= '0' && c <= '9' ? c - '0' : c >= 'a' && c <= 'f' ? c - 'a' + 10 : c >= 'A' && c <= 'F' ? c - 'A' + 10 : -1;
@@ -126,13 +112,13 @@ static char *number(char *end, size_t value)
 
 int main(int argc, char **argv)
 {
+    static uint8_t bytes[1 << 26];
+    size_t count = argc == 2 && strcmp(argv[1], "version") == 0 ? 0 : fread(bytes, 1, sizeof bytes, stdin);
     init();
-    size_t count;
     if (argc == 2 && strcmp(argv[1], "version") == 0) version();
     else if (argc == 2 && strcmp(argv[1], "sweep") == 0) {
         static char gathered[1 << 16];
         setvbuf(stdout, gathered, _IOFBF, sizeof gathered);
-        uint8_t *bytes = contents(stdin, &count);
         count = read_hex(bytes, count);
         for (size_t at = 0; at < count;) {
             char text[512] = "error", front[48], *end = front + sizeof front;
@@ -148,7 +134,6 @@ int main(int argc, char **argv)
             at += length;
         }
     } else if (argc == 3 && strcmp(argv[1], "decode") == 0) {
-        uint8_t *bytes = contents(stdin, &count);
         size_t decoded = 0;
         for (int passes = atoi(argv[2]); passes > 0; passes--) decoded += decode(bytes, count);
         printf("%zu\n", decoded);

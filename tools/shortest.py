@@ -11,7 +11,6 @@ The spellings of one address that have the fewest bytes are the shortest.
 import itertools
 import random
 import re
-import sys
 import tempfile
 
 from sources import TOP, dumped, write
@@ -126,10 +125,4 @@ def table():
     )
 
 
-def main():
-    if sys.argv[1:] not in ([], ["--check"]):
-        sys.exit(__doc__)
-    sys.exit(write({TABLE: table()}, is_check=bool(sys.argv[1:])))
-
-
-main()
+write(lambda: {TABLE: table()})

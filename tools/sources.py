@@ -2,6 +2,7 @@
 built programs; and the packages of tools."""
 
 import functools
+import itertools
 import os
 import re
 import shutil
@@ -15,7 +16,8 @@ WORD = re.compile(r"(?<![\w.\-'])[A-Za-z_][\w\-']*(?:\.[A-Za-z_][\w\-']*)*")
 KINDS = r"(?:abbrev|unfoldable|pub|record|data)"
 # The first line of a definition: its kinds, its name, and its arguments or its type.
 HEAD = re.compile(rf"( *)((?:{KINDS} )*)([A-Za-z_][\w\-']*)(?= :| [({{])")
-BINDER = re.compile(r"[({]([A-Za-z_][\w\-' ]*?) : ")
+# Variables: those of a type, and what the left side of an equation has, with the names of cases, which are of types that the definition names.
+VARIABLES = re.compile(r"[({]([\w\-' ]+) : |λ ([^.]*)\.|\blet (\w+) =|^ *[\w\-']+ ([^=\n]*?) =(?: |$)", re.M)
 KEYWORDS = set("abbrev unfoldable pub record data module where let in use as if then else λ _ Type fn ensures ghost impl trait type".split())
 
 
@@ -47,6 +49,17 @@ CODE = ["--", "crates/*/src/*.rt", ":!crates/uses/src/tests"]
 def git(*words):
     """What git prints, or nothing without it."""
     return subprocess.run(["git", *words], cwd=TOP, capture_output=True, text=True).stdout.strip() if shutil.which("git") else ""
+
+
+@functools.cache
+def source_texts(*folders):
+    """The text of each file of code, proofs or edits in these folders of the crates."""
+    files = (path for folder in folders for path in CRATES.glob(f"*/{folder}/**/*") if path.suffix in (".rt", ".antt", ".edit"))
+    return {path: path.read_text() for path in sorted(files)}
+
+
+def short(path):
+    return str(path.relative_to(CRATES))
 
 
 @functools.cache
@@ -88,14 +101,18 @@ def dumped(*words, folder=None):
         sys.exit(f"objdump ended with status {ran.returncode}: {' '.join(map(str, words))}")
 
 
-def write(texts, is_check):
-    """Writes texts into their files, or says which files have other texts. Returns the status."""
+def write(texts_of):
+    """Writes the texts that a call has for files, or with the word `--check` says which files have other texts. Ends the script."""
+    is_check = sys.argv[1:] == ["--check"]
+    if sys.argv[1:] and not is_check:
+        sys.exit(sys.modules["__main__"].__doc__)
+    texts = texts_of()
     other = [path for path, text in texts.items() if not path.is_file() or path.read_text() != text]
     for path in other:
         print(f"{path.relative_to(TOP)} isn't what {Path(sys.argv[0]).name} writes" if is_check else f"wrote {path.relative_to(TOP)}")
         if not is_check:
             path.write_text(texts[path])
-    return 1 if is_check and other else 0
+    sys.exit(1 if is_check and other else 0)
 
 
 def anchor(heading):
@@ -109,13 +126,32 @@ def section(text, heading):
     return parts[1].split("\n## ")[0] if len(parts) > 1 else ""
 
 
-def first_cells(text, heading):
-    """What the first cells of the table below a heading have, without the table's head."""
-    return {*re.findall(r"^\| (?!reason )([^|-][^|]*?) \|", section(text, heading), re.M)}
+def reasons():
+    """The names of the reasons for which zydis answers otherwise, in their order."""
+    return dict.fromkeys(re.findall(r'^    \{"([^"]+)", "', (TOP / "tools" / "judge" / "reasons.c").read_text(), re.M))
+
+
+def unlike_rows(names, page, heading):
+    """The names that these alone have, or the first cells of the table below a heading of a page alone, without the table's head."""
+    return {*names} ^ {*re.findall(r"^\| (?!reason )([^|-][^|]*?) \|", section((TOP / page).read_text(), heading), re.M)}
 
 
 def indent(line):
     return len(line) - len(line.lstrip(" "))
+
+
+def enclosing(lines, number):
+    """The numbers of the lines that a line is in, the innermost first: each is indented less than all after it."""
+    depth = indent(lines[number])
+    for at in range(number - 1, -1, -1):
+        if lines[at].strip() and not lines[at].lstrip().startswith("--") and indent(lines[at]) < depth:
+            depth = indent(lines[at])
+            yield at
+
+
+def is_part(lines, number):
+    """Whether a line is in a record or a data, which make it a field or a case."""
+    return any(re.search(r"\b(record|data)\b", lines[at]) for at in itertools.islice(enclosing(lines, number), 1))
 
 
 def module_file(words):
@@ -127,9 +163,9 @@ def module_file(words):
 @functools.cache
 def type_file(crate, name):
     """The file of src/ that has a type."""
-    for path in sorted((CRATES / crate / "src").rglob("*.rt")):
-        if re.search(rf"^(?:pub(?:\([a-z]+\))? )?(?:struct|enum|trait|type) {name}\b", path.read_text(), re.M):
-            return str(path.relative_to(CRATES))
+    for path, text in source_texts("src").items():
+        if CRATES / crate in path.parents and re.search(rf"^(?:pub(?:\([a-z]+\))? )?(?:struct|enum|trait|type) {name}\b", text, re.M):
+            return short(path)
     raise Missing(f"{crate}/src has no type {name}")
 
 
@@ -158,19 +194,12 @@ class Module:
                 if kind == "pub ":
                     self.passed_on.add(own)
 
-    def fields_above(self, number):
-        """Whether the line is in a record or a data, which make it a field or a case."""
-        for line in reversed(self.lines[:number]):
-            if line.strip() and not line.lstrip().startswith("--") and indent(line) < indent(self.lines[number]):
-                return bool(re.match(r" *(pub )?(record|data) ", line))
-        return False
-
     def find_definitions(self):
         """The first line of each definition, and the one after its last."""
         spans = {}
         for number, line in enumerate(self.lines):
             head = HEAD.match(line)
-            if not head or head[3] in KEYWORDS or not head[2] or self.fields_above(number):
+            if not head or head[3] in KEYWORDS or not head[2] or is_part(self.lines, number):
                 continue
             if head[3] in spans:
                 raise Missing(f"{self.path} defines {head[3]} twice")
@@ -182,11 +211,8 @@ class Module:
 
     def find_cases(self):
         """The data that each case is of."""
-        found = {}
-        for name, (first, end) in self.spans.items():
-            if re.search(r"\bdata ", self.lines[first]):
-                found |= {match[1]: name for line in self.lines[first + 1 : end] if (match := re.match(r" *(\w+) : ", line))}
-        return found
+        bodies = ((name, self.lines[first + 1 : end]) for name, (first, end) in self.spans.items() if re.search(r"\bdata ", self.lines[first]))
+        return {match[1]: name for name, lines in bodies for line in lines if (match := re.match(r" *(\w+) : ", line))}
 
     def continues(self, head, number):
         """Whether a line belongs to the definition above it: it is indented more, closes it, says what it unfolds, is an equation of it, or a comment before such a line."""
@@ -197,14 +223,9 @@ class Module:
 
     def heads_above(self, number):
         """The heads of the modules that a line is in, the outermost first."""
-        depth, found = indent(self.lines[number]), []
-        for at in range(number - 1, -1, -1):
-            if self.lines[at].strip() and not self.lines[at].lstrip().startswith("--") and indent(self.lines[at]) < depth:
-                depth = indent(self.lines[at])
-                if self.lines[at].lstrip().startswith("module _"):
-                    end = next(end for end in range(at, number) if self.lines[end].endswith(" where"))
-                    found.insert(0, self.lines[at : end + 1])
-        return found
+        heads = (at for at in enclosing(self.lines, number) if self.lines[at].lstrip().startswith("module _"))
+        ends = ((at, next(end for end in range(at, number) if self.lines[end].endswith(" where"))) for at in heads)
+        return [self.lines[at : end + 1] for at, end in ends][::-1]
 
     def text(self, name):
         if name not in self.spans:
@@ -250,55 +271,10 @@ def resolved(path, word):
     return resolved(target, own) if own in module(target).passed_on else ("spec", *definition(target, own))
 
 
-def is_constructor(path, word):
-    found = resolved(path, word)
-    if found is None:
-        return False
-    if found[0] == "spec":
-        return word.split(".")[-1] != found[2]
-    return found[0] == "type" or found[1] in ("true", "false", "zero", "suc", "pos", "negsuc", "Some", "None", "Ok", "Err", "tt")
-
-
-def bound(path, lines, name):
-    """The variables of a definition: its arguments, and those of binders, λ and let. A field of a record is one in the fields after it."""
-    text, found = "\n".join(lines), set()
-    for names in BINDER.findall(text):
-        found |= set(names.split())
-    for names in re.findall(r"λ ([^.]*)\.", text):
-        found |= set(names.split())
-    found |= set(re.findall(r"\blet (\w+) =", text))
-    found |= {match[1] for match in re.finditer(r"^ +(?:pub )?(\w+) : ", text, re.M)}
-    for line in lines:
-        equation = re.match(rf" *{re.escape(name)} (.*?) =(?: |$)", line)
-        if equation:
-            found |= {word for word in WORD.findall(equation[1]) if not is_constructor(path, word)}
-    return found
-
-
-def uses(path, name):
-    """What a definition of specs/ uses, without its variables and the fields of its records."""
-    file = module(path)
-    lines = [re.sub(r"(^|\s)--.*", r"\1", line) for line in file.text(name)]
-    variables = bound(path, lines, name) | {name}
-    for head in file.heads_above(file.spans[name][0]):
-        for names in BINDER.findall("\n".join(head)):
-            variables |= set(names.split())
-        lines += head
-    text = re.sub(r'"[^"]*"', "", "\n".join(lines))
-    text = re.sub(r"(?<=[{;])\s*(\w+) = ", " ", text)
-    found = []
-    for word in WORD.findall(text):
-        first = word.split(".")[0]
-        if first in KEYWORDS or first in variables:
-            continue
-        at = resolved(path, word)
-        if at and at not in found:
-            found.append(at)
-    return found
-
-
-def clause_uses(path, lines):
-    """What the clauses of a function of src/ use, or a definition of proofs/."""
-    text, file = re.sub(r"//.*", "", "\n".join(lines)), module(path)
-    words = {word.split(".")[0] for word in WORD.findall(text)}
-    return [at for word in sorted(words) if (word in file.imports or word in file.spans) and (at := resolved(path, word))]
+def uses(path, lines):
+    """What some lines of a file use: a definition, with the modules that it is in, or the clauses of a function."""
+    text = re.sub(r"(^|\s)(?:--|//).*", r"\1", "\n".join(lines), flags=re.M)
+    text = re.sub(r"(?<=[{;])\s*\w+ = ", " ", re.sub(r'"[^"]*"', "", text))
+    variables = {name for names in VARIABLES.findall(text) for name in WORD.findall(" ".join(names))}
+    found = dict.fromkeys(resolved(path, word) for word in WORD.findall(text) if word.split(".")[0] not in variables)
+    return [at for at in found if at]

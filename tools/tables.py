@@ -15,9 +15,8 @@ The lists, which people edit:
     crates/x86_objdump/specs/Text/Entries.antt    how `show` writes an operation, a line for each that isn't written as its name
     tools/commands.txt                         the commands, a line each: its words, and after two blanks what it does
 
-tools/form_rows.py has the tables of rows, tools/form_cells.py which of them form, mod and reg alone choose, and tools/byte_rows.py the rows of opcode
-bytes without a legacy prefix. The script writes the lines of data alone:
-imports, heads of tables, functions and comments of the files are edited by hand.
+tools/form_rows.py has the tables of rows, and which of them form, mod and reg alone choose; tools/byte_rows.py has the rows of opcode bytes without a
+legacy prefix. The script writes the lines of data alone: imports, heads of tables, functions and comments of the files are edited by hand.
 
 Nothing rests on this script. What it writes is checked like all other code: that the constants have the numbers and
 spellings of their names, that each form is at its ordinal, and that each table has the words of the rows, is proved.
@@ -29,27 +28,17 @@ import sys
 import textwrap
 
 import byte_rows
-import form_cells
 import form_rows
-from sources import TOP, write
-
-OPCODES = TOP / "crates" / "x86_opcodes"
-FORMS = TOP / "crates" / "x86_forms"
-REGS = TOP / "crates" / "x86_regs"
-OPERANDS = TOP / "crates" / "x86_operands"
-GROUPS = TOP / "crates" / "x86_groups"
-TEXT = TOP / "crates" / "x86_text"
-SHOW = TOP / "crates" / "x86_objdump"
-CLI = TOP / "crates" / "x86_cli"
+from sources import CRATES, TOP, write
 
 MAPS = ["One", "Of", "Of38", "Of3a"]
 COLUMNS = ["Plain", "P66", "F3", "F2"]
 PART = 128  # how many constants a table has: a proof over a table of texts takes time by the square of its length
 
 
-def lines_of(text, first, last, pattern):
-    """The lines between two lines, each read by the pattern; comments are left out."""
-    body = re.search(rf"^{first}\n(.*?)^{last}$", text, re.M | re.S).group(1)
+def lines_of(path, first, last, pattern):
+    """The lines of a file between two lines, each read by the pattern; comments are left out."""
+    body = re.search(rf"^{first}\n(.*?)^{last}$", (CRATES / path).read_text(), re.M | re.S).group(1)
     for line in body.splitlines():
         if line.strip().startswith(("--", "//")):
             continue
@@ -61,8 +50,7 @@ def lines_of(text, first, last, pattern):
 
 def names():
     """The opcodes in the order of their numbers, each named as it is spelled."""
-    text = (OPCODES / "specs" / "Mnemonics.antt").read_text()
-    return [name for (name,) in lines_of(text, "all_names =", r"    \[\]", r'    is opcode\.(\w+) \(codes "\1"\) ∷')]
+    return [name for (name,) in lines_of("x86_opcodes/specs/Mnemonics.antt", "all_names =", r"    \[\]", r'    is opcode\.(\w+) \(codes "\1"\) ∷')]
 
 
 def numbers():
@@ -72,14 +60,14 @@ def numbers():
 
 def forms():
     """The forms in the order of their ordinals, each with whether it carries a number."""
-    text = (FORMS / "src" / "lib.rt").read_text()
-    return [(form, bool(field)) for form, field in lines_of(text, r"pub enum Form \{", r"\}", r"    (\w+)(\(u8\))?,")]
+    lines = lines_of("x86_forms/src/lib.rt", r"pub enum Form \{", r"\}", r"    (\w+)(\(u8\))?,")
+    return {form: bool(field) for form, field in lines}
 
 
 def ordinals():
     """How many forms, with all their numbers, come before each form."""
     ordinal, answer = 0, {}
-    for form, carries in forms():
+    for form, carries in forms().items():
         answer[form] = ordinal
         ordinal += form_rows.CARRIED if carries else 1
     return answer
@@ -87,20 +75,14 @@ def ordinals():
 
 def rows():
     """The rows of each map: the columns, the byte, the opcode, the form and the number that it carries."""
-    text = (FORMS / "specs" / "Rows.antt").read_text()
-    pattern = r"    in_(\w+) 0x(..) opcode\.(\w+) (?:form\.(\w+)|\(form\.(\w+) ([0-7])\)) ∷"
-    answer = {}
-    for of in MAPS:
-        answer[of] = [
-            (columns, int(byte, 16), opcode, form or carrying, int(number or 0))
-            for columns, byte, opcode, form, carrying, number in lines_of(text, f"rows_of_{of} =", r"    \[\]", pattern)
-        ]
-    return answer
+    pattern = r"    in_(\w+) 0x(..) opcode\.(\w+) \(?form\.(\w+)(?: ([0-7])\))? ∷"
+    lines = {of: lines_of("x86_forms/specs/Rows.antt", f"rows_of_{of} =", r"    \[\]", pattern) for of in MAPS}
+    return {of: [(columns, int(byte, 16), *names, int(number or 0)) for columns, byte, *names, number in lines[of]] for of in MAPS}
 
 
 def registers():
     """The classes of registers in the order of the list, each with the names by number."""
-    text = (REGS / "specs" / "Names.antt").read_text()
+    text = (CRATES / "x86_regs/specs/Names.antt").read_text()
     classes = re.findall(r"^names_of (\w+) = ((?:.|\n )*?) ∷ \[\]$", text, re.M)
     return [(of, [re.sub(r'codes "(.*)"|\[\]', r"\1", name) for name in re.split(r" ∷\s+", names)]) for of, names in classes]
 
@@ -118,22 +100,12 @@ def strangers():
         for form, form_has in form_rows.rows_of(function).items():
             if form not in {*ordinal, "f"}:
                 yield f"{function} has form.{form}, a form that src/lib.rt of x86_forms hasn't"
-            for opcode in (opcode for row in form_has for opcode in row.opcodes() if opcode not in known):
+            for opcode in sorted({opcode for row in form_has for opcode in row.opcodes()} - known - {"none"}):
                 yield f"{function} has {opcode} at form.{form}, a name that specs/Mnemonics.antt of x86_opcodes hasn't"
 
 
 def has_column(columns, column):
     return columns == "all" or column.lower() in columns.split("_")
-
-
-def words(map_rows, column):
-    """The words of a column by the byte, where the first of several rows counts."""
-    number_of, ordinal = numbers(), ordinals()
-    answer = [0] * 256
-    for columns, byte, opcode, form, number in reversed(map_rows):
-        if has_column(columns, column):
-            answer[byte] = 256 * number_of[opcode] + 1 + ordinal[form] + number
-    return answer
 
 
 # ---- The files: each as its text, with other data ----
@@ -147,19 +119,14 @@ def between(text, first, last, lines):
     return parts[0] + parts[1] + "".join(f"{line}\n" for line in lines) + parts[2]
 
 
-def counted(text, name, count):
-    """A text with this length of a table."""
-    return re.sub(rf"(?m)^(pub.* {name}: .*; )\d+(\] = )", rf"\g<1>{count}\2", text)
-
-
 def filled(text, tables, counts=None):
-    """A text with these lines in its tables. A table of one name is a line."""
+    """A text with these lines in its tables, and with the lengths of these. A table of one name is a line."""
     for name, lines in tables.items():
         if len(lines) == 1:
             text = re.sub(rf"(?m)^(pub.* {name}: .* = \[).*(\];)$", lambda found: found[1] + lines[0].strip().rstrip(",") + found[2], text)
         else:
             text = between(text, rf"pub.* {name}: .*\[", r"\];", lines)
-        text = counted(text, name, (counts or {}).get(name, len(lines)))
+        text = re.sub(rf"(?m)^(pub.* {name}: .*; )\d+(\] = )", rf"\g<1>{(counts or {}).get(name, len(lines))}\2", text)
     return text
 
 
@@ -181,23 +148,26 @@ def names_rt(text):
 
 
 def ordinals_antt(text):
-    every = [(f"(form.{form} n)" if carries else f"form.{form}", ordinals()[form], carries) for form, carries in forms()]
+    every = [(f"(form.{form} n)" if carries else f"form.{form}", ordinals()[form], carries) for form, carries in forms().items()]
     text = between(text, "unfoldable pub ordinal_of : .*", "", [f"ordinal_of {form} = {at}{' + n' if carries else ''}" for form, at, carries in every])
     first = [f"first_ordinal_of {form} = {at}" for form, at, _ in every]
     return between(text + "\n", "abbrev pub first_ordinal_of : .*", "", first).removesuffix("\n")
 
 
 def ordinals_rt(text):
-    every = [f"    Form::{form}({number})," for form, carries in forms() for number in (range(form_rows.CARRIED) if carries else ["-"])]
-    text = filled(text, {"FORMS": [line.replace("(-)", "") for line in every]})
-    arms = [f"            Form::{form}{'(_)' if carries else ''} => {ordinals()[form]}," for form, carries in forms()]
+    numbers = [f"({number})" for number in range(form_rows.CARRIED)]
+    text = filled(text, {"FORMS": [f"    Form::{form}{number}," for form, carries in forms().items() for number in (numbers if carries else [""])]})
+    arms = [f"            Form::{form}{'(_)' if carries else ''} => {ordinals()[form]}," for form, carries in forms().items()]
     return between(text, r"        match \*self \{", r"        \}", arms)
 
 
 def words_table(map_rows, column):
-    """The words of a column: eight on a line, followed by the byte of the first."""
-    entries = words(map_rows, column)
-    return ["    " + ", ".join(f"0x{word:05x}" for word in entries[byte : byte + 8]) + f", // {byte:02X}" for byte in range(0, 256, 8)]
+    """The words of a column by the byte, where the first of several rows counts: eight on a line, followed by the byte of the first."""
+    number_of, ordinal, words = numbers(), ordinals(), [0] * 256
+    for columns, byte, opcode, form, number in reversed(map_rows):
+        if has_column(columns, column):
+            words[byte] = 256 * number_of[opcode] + 1 + ordinal[form] + number
+    return ["    " + ", ".join(f"0x{word:05x}" for word in words[byte : byte + 8]) + f", // {byte:02X}" for byte in range(0, 256, 8)]
 
 
 def tables_rt(text):
@@ -211,22 +181,14 @@ def name_lines(size, texts):
     return [f'    name!(b"{text:<{size}}", {len(text)}),' for text in texts]
 
 
-def sizes_rt(text):
-    return filled(text, {"SIZES": name_lines(4, [" m?" if size == form_rows.UNDECIDED else f" m{size}" for size in range(65)])})
-
-
 def entries():
-    """Each operation with the text and the letters by which `show` writes it: its line in the list, else its name in lower case and dashes."""
-    text = (SHOW / "specs" / "Text" / "Entries.antt").read_text()
+    """The text and the letters by which `show` writes each operation: those of its line in the list, else its name in lower case and dashes."""
     pattern = r'    row opcode\.(\w+) (?:\[\]|\(codes "([^"]+)"\)) \(codes "(.{6})"\) ∷'
-    listed = {name: (spelled, letters) for name, spelled, letters in lines_of(text, "rows =", r"    \[\]", pattern)}
+    listed = {name: (spelled, letters) for name, spelled, letters in lines_of("x86_objdump/specs/Text/Entries.antt", "rows =", r"    \[\]", pattern)}
     for name in names():
         spelled, letters = listed.get(name, (None, "-" * 6))
-        yield spelled or name.lower(), letters
-
-
-def entries_rt(text):
-    return filled(text, {"ENTRIES": [f'    entry!(b"{spelled:<16}", {len(spelled)}, b"{letters}"),' for spelled, letters in entries()]})
+        text = spelled or name.lower()
+        yield f'    entry!(b"{text:<16}", {len(text)}, b"{letters}"),'
 
 
 def with_usage(text):
@@ -236,18 +198,14 @@ def with_usage(text):
 
 
 def rows_rt(text, function, more, counts=None):
-    """A table of the rows of plain forms, or of groups, and more tables."""
-    constants, tables = form_rows.tables(function, dict(forms()), numbers())
+    """A text with the rows of plain forms, or of groups, and more tables."""
+    constants, tables = form_rows.tables(function, forms(), numbers())
     text = between(text, r"const ABSENT: .*\n", "/// The rows of all forms.*", [line for each in constants for line in (f"const {each}", "")])
     return filled(text, tables | more, counts)
 
 
-def plain_tables_rt(text):
-    return rows_rt(text, form_rows.PLAIN, {"HEADS": form_cells.heads(dict(forms()))})
-
-
 def group_tables_rt(text):
-    more = form_cells.cells(dict(forms()), numbers())
+    more = form_rows.cells(forms(), numbers())
     return rows_rt(text, form_rows.GROUPS, more, {"CELLS": len(more["CELLS"]) // 18})
 
 
@@ -256,32 +214,30 @@ def byte_tables_rt(text):
 
 
 WRITTEN = {
-    OPCODES / "specs" / "Names.antt": names_antt,
-    OPCODES / "src" / "names.rt": names_rt,
-    FORMS / "specs" / "Ordinals.antt": ordinals_antt,
-    FORMS / "src" / "ordinals.rt": ordinals_rt,
-    FORMS / "src" / "tables.rt": tables_rt,
-    OPERANDS / "src" / "tables.rt": plain_tables_rt,
-    GROUPS / "src" / "tables.rt": group_tables_rt,
-    GROUPS / "src" / "byte_tables.rt": byte_tables_rt,
-    TEXT / "src" / "mnemonics.rt": lambda text: filled(text, {"MNEMONICS": name_lines(16, names())}),
-    TEXT / "src" / "registers.rt": lambda text: filled(text, {of.upper(): name_lines(8, texts) for of, texts in registers()}),
-    TEXT / "src" / "sizes.rt": sizes_rt,
-    SHOW / "src" / "text" / "tables.rt": entries_rt,
-    CLI / "src" / "commands" / "request.rt": with_usage,
-    CLI / "specs" / "Commands" / "Process.antt": with_usage,
+    "x86_opcodes/specs/Names.antt": names_antt,
+    "x86_opcodes/src/names.rt": names_rt,
+    "x86_forms/specs/Ordinals.antt": ordinals_antt,
+    "x86_forms/src/ordinals.rt": ordinals_rt,
+    "x86_forms/src/tables.rt": tables_rt,
+    "x86_operands/src/tables.rt": lambda text: rows_rt(text, form_rows.PLAIN, {"HEADS": form_rows.heads(forms())}),
+    "x86_groups/src/tables.rt": group_tables_rt,
+    "x86_groups/src/byte_tables.rt": byte_tables_rt,
+    "x86_text/src/mnemonics.rt": lambda text: filled(text, {"MNEMONICS": name_lines(16, names())}),
+    "x86_text/src/registers.rt": lambda text: filled(text, {of.upper(): name_lines(8, texts) for of, texts in registers()}),
+    "x86_text/src/sizes.rt": lambda text: filled(text, {"SIZES": name_lines(4, [f" m{'?' if it == form_rows.UNDECIDED else it}" for it in range(65)])}),
+    "x86_objdump/src/text/tables.rt": lambda text: filled(text, {"ENTRIES": [*entries()]}),
+    "x86_cli/src/commands/request.rt": with_usage,
+    "x86_cli/specs/Commands/Process.antt": with_usage,
 }
 
 
-def main():
-    check = sys.argv[1:] == ["--check"]
-    if sys.argv[1:] and not check:
-        sys.exit(__doc__)
+def written():
+    """The texts of the files."""
     found = [*strangers()]
     if found:
         sys.exit("\n".join(f"tables.py: {line}" for line in found))
-    return write({path: text_of(path.read_text()) for path, text_of in WRITTEN.items()}, check)
+    return {CRATES / path: text_of((CRATES / path).read_text()) for path, text_of in WRITTEN.items()}
 
 
 if __name__ == "__main__":
-    sys.exit(main())
+    write(written)

@@ -1,4 +1,5 @@
-# What the tests share: a test that can't try something for want of a tool says so by `skip`, and the gate counts it.
+# What the tests share. They read this file by `. "$top/tools/test.sh"`, where `top` is the folder of the repository. A test that can't try something
+# for want of a tool says so by `skip`, and the gate counts it.
 
 # skip REASON: WHAT: says what isn't tried, and why.
 skip() {
@@ -16,4 +17,41 @@ has() {
 # error NAME: what a listing says of an error of a decode.
 error() {
     sed -n "s/^description_of $1 = codes \"\(.*\)\"\$/error: \1/p" "$top/crates/x86_fields/specs/Errors.antt"
+}
+
+# begin TOOL..: makes a folder to work in, `work`, which goes at the end. Where a tool is missing the test ends here, and says that all of it is skipped.
+begin() {
+    for needed; do has "$needed" "all of it" || exit 0; done
+    work=$(mktemp -d)
+    trap 'rm -rf "$work"' EXIT
+    trap 'exit 1' HUP INT TERM
+}
+
+# wrongly WHAT: says what is wrong, and notes that something is.
+wrongly() {
+    echo "${0##*/}: $*" >&2
+    : >"$work/wrong"
+}
+
+# finish WHAT: ends the test, and says so where nothing is wrong.
+finish() {
+    [ ! -e "$work/wrong" ] || exit 1
+    echo "${0##*/}: $*"
+    exit 0
+}
+
+# feed COMMAND..: starts a command over a new pipe, descriptor 7, which stays open. What it prints is in the file `out`.
+feed() {
+    rm -f "$work/fed"
+    : >"$work/out"
+    mkfifo "$work/fed"
+    exec 7<>"$work/fed"
+    "$@" <"$work/fed" >"$work/out" 2>"$work/said" 7<&- &
+    fed=$!
+}
+
+# come COUNT WHAT: so many lines come of what is fed, and no more.
+come() {
+    for _ in $(seq 100); do [ "$(wc -l <"$work/out")" -lt "$1" ] && sleep 0.05 || break; done
+    [ "$(wc -l <"$work/out")" -eq "$1" ] || wrongly "$(wc -l <"$work/out") lines and not $1: $2"
 }

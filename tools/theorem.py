@@ -20,7 +20,7 @@ import re
 import sys
 
 sys.dont_write_bytecode = True
-from sources import CRATES, TOP, Missing, Module, anchor, clause_uses, indent, module, section, uses, write
+from sources import CRATES, TOP, Missing, Module, anchor, indent, module, section, short, source_texts, uses, write
 
 THEOREM, DEFINITIONS = PAGES = "docs/THEOREM.md", "docs/DEFINITIONS.md"
 LISTED = re.compile(r"- \[(.*?)\]\(\.\./crates/.*?\): (.*)")
@@ -112,8 +112,7 @@ def item(path, name, shown=()):
 def homes():
     """The files of specs/ that define each name which others may use."""
     found = {}
-    for file in sorted(CRATES.glob("*/specs/**/*.antt")):
-        of = module(str(file.relative_to(CRATES)))
+    for of in map(module, map(short, source_texts("specs"))):
         for name in (name for name, (first, _) in of.spans.items() if re.search(r"\bpub\b", of.lines[first])):
             found.setdefault(name, []).append(of.path)
     return found
@@ -121,7 +120,7 @@ def homes():
 
 def function_files(name, clauses):
     """The files of src/ that have a function with these clauses."""
-    found = [str(path.relative_to(CRATES)) for path in CRATES.glob("*/src/**/*.rt") if re.search(rf"^ *pub fn {name}\b", path.read_text(), re.M)]
+    found = [short(path) for path, text in source_texts("src").items() if re.search(rf"^ *pub fn {name}\b", text, re.M)]
     return [path for path in found if all(f"ensures {clause} {{" in "\n".join(item(path, name)) for clause in clauses)]
 
 
@@ -223,7 +222,7 @@ class Pages:
             self.fields |= set(re.findall(r"^    pub(?:\(\w+\))? (\w+):", "\n".join(lines), re.M))
         for member in re.findall(r"^    (?:ghost|fn) (\w+)", "\n".join(lines), re.M) if kind == "trait" else []:
             self.members.setdefault((path, f"{name}.{member}"), link)
-        return self.note(clause_uses(path, lines))
+        return self.note(uses(path, lines))
 
     def follow(self, todo):
         """Finds what the definitions use, until all is shown or linked."""
@@ -242,7 +241,7 @@ class Pages:
                 self.used[path].add(name)
             if re.match(r" *(pub )?record ", module(path).text(name)[0]):
                 self.fields |= {match[1] for line in module(path).text(name) if (match := re.match(r" +(?:pub )?(\w+) : ", line))}
-            for other in (found := self.note(uses(path, name))):
+            for other in (found := self.note(uses(path, block(path, [name])))):
                 users.setdefault(other, name)
             todo += found
 
@@ -342,23 +341,15 @@ def fields_and_functions(texts):
     """The fields and cases of what the pages show, the functions of src/, and the crates."""
     code = "\n".join(line for text in texts.values() for line in text.splitlines() if line.startswith("    "))
     found = set(re.findall(r"(?:pub )?(\w+) ?: ", code)) | {path.name for path in CRATES.iterdir()}
-    for path in CRATES.glob("*/src/**/*.rt"):
-        found |= set(re.findall(r"(?:\b(?:fn|trait|struct|enum|const) |^    )(\w+)", path.read_text(), re.M))
-    return found
+    return found | {word for text in source_texts("src").values() for word in re.findall(r"(?:\b(?:fn|trait|struct|enum|const) |^    )(\w+)", text, re.M)}
 
 
 def clauses():
     """The clauses of each function of src/, by its name."""
     found = {}
-    for path in CRATES.glob("*/src/**/*.rt"):
-        name = None
-        for line in path.read_text().splitlines():
-            if start := re.search(r"\bfn (\w+)", line):
-                name = start[1]
-                found.setdefault(name, set())
-            if name and (clause := re.match(r" *ensures (\w+) \{", line)):
-                found[name].add(clause[1])
-            name = None if line.strip() in ("{", "{}") else name
+    for part in (part for text in source_texts("src").values() for part in re.split(r"\bfn (?=\w)", text)[1:]):
+        head = re.split(r"^ *\{\}?$", part, maxsplit=1, flags=re.M)[0]
+        found.setdefault(re.match(r"\w+", head)[0], set()).update(re.findall(r"^ *ensures (\w+) \{", head, re.M))
     return found
 
 
@@ -373,16 +364,15 @@ def check_clauses(texts):
                 fail(f"{page} names {call}.{clause}, and no call has that clause")
 
 
-def main():
-    if sys.argv[1:] not in ([], ["--check"]):
-        sys.exit(__doc__)
+def written():
+    """The texts of the pages."""
     try:
         pages = Pages()
         texts = {page: pages.text(page) for page in PAGES}
     except Missing as missing:
         fail(missing)
     pages.check(texts)
-    sys.exit(write({TOP / page: text for page, text in texts.items()}, is_check=bool(sys.argv[1:])))
+    return {TOP / page: text for page, text in texts.items()}
 
 
-main()
+write(written)

@@ -1,24 +1,22 @@
 /* Changes to a reading, as the tables of rules.c write them. */
 #include "judge.h"
+#include <err.h>
 #include <stdio.h>
 #include <stdlib.h>
 #include <string.h>
 
-static const char *const widths[] = {"b", "w", "d", "q", "v", "vq", "vd", "dq", "x"};
-static const char *const texts[] = {"[rdi]", "[rsi]", "dl", "dx", "ecx", "u8:1", "u8:3"};
-
-static bool has(const char *word, size_t length, const char *name)
+static bool is(const char *word, const char *name)
 {
-    return strlen(name) == length && memcmp(word, name, length) == 0;
+    return strcmp(word, name) == 0;
 }
 
-static int bytes_of(const struct code *code, const char *word, size_t length)
+static int bytes_of(const struct code *code, const char *word)
 {
+    static const char *const widths[] = {"b", "w", "d", "q", "v", "vq", "vd", "dq", "x"};
     const int bytes[] = {1, 2, 4, 8, v_bytes(code), code->p66 ? 2 : 8, !has_w(code) && code->p66 ? 2 : 4, has_w(code) ? 8 : 4, 16};
     for (int at = 0; at < 9; at++)
-        if (has(word, length, widths[at])) return bytes[at];
-    fprintf(stderr, "judge: no width: %.*s\n", (int)length, word);
-    exit(2);
+        if (is(word, widths[at])) return bytes[at];
+    errx(2, "no width: %s", word);
 }
 
 static void widen(struct operand *operand, int bytes)
@@ -50,34 +48,33 @@ static void put(struct reading *reading, int at, struct operand operand)
     reading->count++;
 }
 
-static void set_size(const struct code *code, struct reading *reading, const char *word, size_t length)
+static void set_size(const struct code *code, struct reading *reading, const char *word)
 {
-    if (has(word, length, "?")) reading->size = UNDECIDED;
-    else if (has(word, length, "form")) reading->size = reading->read.operand_width == 8 ? 1 : v_bytes(code);
-    else reading->size = *word >= '0' && *word <= '9' ? atoi(word) : bytes_of(code, word, length);
+    if (is(word, "?")) reading->size = UNDECIDED;
+    else if (is(word, "form")) reading->size = reading->read.operand_width == 8 ? 1 : v_bytes(code);
+    else reading->size = *word >= '0' && *word <= '9' ? atoi(word) : bytes_of(code, word);
 }
 
 /* `1:w`: the register that operand 1 is has that width; `1:i8`: the immediate has that type; `1:rm`: the word register of rm and B. */
-static void set_operand(const struct code *code, struct reading *reading, int at, const char *word, size_t length)
+static void set_operand(const struct code *code, struct reading *reading, int at, const char *word)
 {
     struct operand *operand = &reading->operands[at];
     if (at >= reading->count) return;
-    if (has(word, length, "rm")) operand->reg = ZydisRegisterEncode(ZYDIS_REGCLASS_GPR16, (ZyanU8)((code->modrm & 7) | (code->rex & 1) << 3));
-    else if (length > 1 && (*word == 'i' || *word == 'u') && word[1] <= '9') {
-        if (operand->kind != IMMEDIATE) return;
+    if (is(word, "rm")) operand->reg = ZydisRegisterEncode(ZYDIS_REGCLASS_GPR16, (ZyanU8)((code->modrm & 7) | (code->rex & 1) << 3));
+    else if (*word != 'i' && *word != 'u') widen(operand, bytes_of(code, word));
+    else if (operand->kind == IMMEDIATE) {
         operand->is_signed = *word == 'i';
         operand->bits = atoi(word + 1);
-    } else widen(operand, bytes_of(code, word, length));
+    }
 }
 
-static void put_texts(struct reading *reading, const char *word, size_t length)
+static void put_texts(struct reading *reading, char *rest)
 {
     reading->count = 0;
-    for (const char *end = word + length; word < end;) {
-        size_t size = strcspn(word, ",; ");
-        for (size_t k = 0; k < sizeof texts / sizeof *texts; k++)
-            if (has(word, size, texts[k])) put(reading, reading->count, (struct operand){.kind = TEXT, .text = texts[k]});
-        word += size + 1;
+    for (char *word; (word = strtok_r(rest, ",", &rest)) != NULL;) {
+        struct operand operand = {.kind = TEXT};
+        snprintf(operand.text, sizeof operand.text, "%s", word);
+        put(reading, reading->count, operand);
     }
 }
 
@@ -93,47 +90,55 @@ static void take_base(const struct code *code, struct reading *reading)
     }
 }
 
-/* `PFSQRT=PFRSQRT` is another name for one of the names at the row. */
-static void set_name(struct reading *reading, const char *word, size_t length)
+static void swap(struct reading *reading)
 {
-    const char *equals = memchr(word, '=', length);
-    size_t from = equals ? (size_t)(equals - word) + 1 : 0;
-    if (from == 0 || has(word, from - 1, reading->name)) snprintf(reading->name, sizeof reading->name, "%.*s", (int)(length - from), word + from);
+    struct operand first = reading->operands[0];
+    if (reading->count != 2) return;
+    reading->operands[0] = reading->operands[1];
+    reading->operands[1] = first;
 }
 
-static void change_once(const struct code *code, struct reading *reading, const char *word, size_t length)
+/* `PFSQRT=PFRSQRT` is another name for one of the names at the row. */
+static void set_name(struct reading *reading, char *word)
 {
-    const char *colon = memchr(word, ':', length);
-    size_t head = colon ? (size_t)(colon - word) : length, rest = colon ? length - head - 1 : 0;
-    struct operand st0 = {.kind = REGISTER, .reg = ZYDIS_REGISTER_ST0};
-    if (has(word, head, "name")) set_name(reading, colon + 1, rest);
-    else if (has(word, head, "size")) set_size(code, reading, colon + 1, rest);
-    else if (has(word, head, "texts")) put_texts(reading, colon + 1, rest);
-    else if (has(word, head, "none")) reading->count = 0;
-    else if (has(word, head, "first")) reading->count = reading->count > 1 ? 1 : reading->count;
-    else if (has(word, head, "st0-first")) put(reading, 0, st0);
-    else if (has(word, head, "st0-last")) put(reading, reading->count, st0);
-    else if (has(word, head, "no-base")) take_base(code, reading);
-    else if (has(word, head, "swap")) {
-        if (reading->count != 2) return;
-        struct operand first = reading->operands[0];
-        reading->operands[0] = reading->operands[1];
-        reading->operands[1] = first;
-    } else if (has(word, head, "hidden")) {
-        for (size_t k = 0; k < rest; k++) put(reading, reading->count, hidden(reading, colon[1 + k]));
-    } else if (*word >= '0' && *word <= '4' && head == 1) set_operand(code, reading, *word - '0', colon + 1, rest);
-    else {
-        fprintf(stderr, "judge: no such change: %.*s\n", (int)length, word);
-        exit(2);
-    }
+    char *other = strchr(word, '=');
+    if (other != NULL) *other++ = '\0';
+    if (other == NULL || is(word, reading->name)) snprintf(reading->name, sizeof reading->name, "%s", other != NULL ? other : word);
+}
+
+/* A name without the width at its end, as MOVS of MOVSB, and XSAVE of XSAVE64. */
+static void take_width(struct reading *reading)
+{
+    size_t length = strlen(reading->name);
+    char *end = &reading->name[length];
+    if (length > 2 && is(end - 2, "64")) end[-2] = '\0';
+    else if (length > 1 && strchr("BWDQ", end[-1])) end[-1] = '\0';
+}
+
+static void change_once(const struct code *code, struct reading *reading, char *word)
+{
+    const struct operand st0 = {.kind = REGISTER, .reg = ZYDIS_REGISTER_ST0};
+    char *colon = strchr(word, ':'), *rest = colon != NULL ? colon + 1 : word + strlen(word);
+    if (colon != NULL) *colon = '\0';
+    if (is(word, "name")) set_name(reading, rest);
+    else if (is(word, "size")) set_size(code, reading, rest);
+    else if (is(word, "texts")) put_texts(reading, rest);
+    else if (is(word, "none")) reading->count = 0;
+    else if (is(word, "first")) reading->count = reading->count > 1 ? 1 : reading->count;
+    else if (is(word, "st0-first")) put(reading, 0, st0);
+    else if (is(word, "st0-last")) put(reading, reading->count, st0);
+    else if (is(word, "no-base")) take_base(code, reading);
+    else if (is(word, "no-width")) take_width(reading);
+    else if (is(word, "swap")) swap(reading);
+    else if (is(word, "hidden"))
+        for (; *rest != '\0'; rest++) put(reading, reading->count, hidden(reading, *rest));
+    else if (*word >= '0' && *word <= '4' && word[1] == '\0') set_operand(code, reading, *word - '0', rest);
+    else errx(2, "no such change: %s", word);
 }
 
 void change(const struct code *code, struct reading *reading, const char *words)
 {
-    while (*words != '\0') {
-        size_t length = strcspn(words, " ");
-        change_once(code, reading, words, length);
-        words += length;
-        words += strspn(words, " ");
-    }
+    char text[256], *rest = text;
+    snprintf(text, sizeof text, "%s", words);
+    for (char *word; (word = strtok_r(rest, " ", &rest)) != NULL;) change_once(code, reading, word);
 }

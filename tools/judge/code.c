@@ -1,12 +1,11 @@
 /* The head of an encoding. */
 #include "code.h"
+#include <string.h>
 
 bool is_prefix(int byte)
 {
-    switch (byte) {
-    case 0x66: case 0x67: case 0xf0: case 0xf2: case 0xf3: case 0x26: case 0x2e: case 0x36: case 0x3e: case 0x64: case 0x65: return true;
-    default: return (byte & 0xf0) == 0x40;
-    }
+    static const unsigned char legacy[] = {0x66, 0x67, 0xf0, 0xf2, 0xf3, 0x26, 0x2e, 0x36, 0x3e, 0x64, 0x65};
+    return (byte & 0xf0) == 0x40 || memchr(legacy, byte, sizeof legacy) != NULL;
 }
 
 struct code code_of(const unsigned char *bytes, size_t left)

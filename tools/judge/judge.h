@@ -14,7 +14,7 @@ struct operand {
     long long value;                 /* the displacement, or the immediate */
     bool is_signed;
     int bits;                        /* the width of an immediate, or of an absolute address */
-    const char *text;
+    char text[8];
 };
 
 /* A line of the listing, as it is expected. */
@@ -40,7 +40,6 @@ int reading_text(size_t place, const struct reading *reading, char *text, size_t
 void prepare_rules(void);
 void expect(const ZydisDecoder *decoder, const struct code *code, struct reading *reading);
 void print_reasons(void);
-void print_names(void);
 
 /* The tables of reasons. A row says at which bytes a reason holds:
  *
@@ -49,12 +48,14 @@ void print_names(void);
  *     +66 -66 +67 +W -W +R +any   prefixes that must be there, or not be there (`any`: 66, 67, F0, FS, GS or a REX)
  *     rm0             ModRM's rm is 0
  *     8F 50-5F        opcode bytes; `/67` with such a reg field, `r` in the register form, `m` in memory form, `=FE` with that ModRM
+ *     ;               other bytes at which it holds follow
  */
 struct rule {
     const char *reason, *rows, *words;
+    size_t count;                    /* how often it changed something */
 };
 
-extern const struct rule refused[], read_otherwise[], changed[];
+extern struct rule refused[], read_otherwise[], changed[];
 
 /* changes.c */
 void change(const struct code *code, struct reading *reading, const char *words);

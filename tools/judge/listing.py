@@ -195,7 +195,9 @@ def is_of_version():
 
 
 def main(show, pieces, work):
-    """Compares the listings of pieces of code, each with its name, at four bases. Returns the status."""
+    """Compares the listings of pieces of code, each with its name, at four bases. Returns the status, which is 0 where objdump is of another version."""
+    if not is_of_version():
+        return 0
     heads = ["lines", "at both", "`show` alone", "objdump alone", *REASONS]
     print("| code of | base | " + " | ".join(heads) + " | unexplained |\n|---|---|---|" + "---|" * len(heads))
     count = 0

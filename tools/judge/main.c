@@ -6,27 +6,15 @@
  *     reason COUNT REASON                            for each rule that changed something
  *     counts LINES ACCEPTED REFUSED UNEXPLAINED
  *
- * each with tabs between. `judge reasons` prints the names of all reasons.
- * It ends with status 0, or 2 where RAW can't be read.
+ * each with tabs between. It ends with status 0, or 2 where RAW can't be read.
  */
 #include "judge.h"
+#include <err.h>
 #include <stdio.h>
 #include <stdlib.h>
 #include <string.h>
 
-static unsigned char *contents(const char *path, size_t *count)
-{
-    FILE *file = fopen(path, "rb");
-    if (file == NULL || fseek(file, 0, SEEK_END) != 0) { perror(path); exit(2); }
-    *count = (size_t)ftell(file);
-    rewind(file);
-    unsigned char *bytes = malloc(*count + 1);
-    if (bytes == NULL || fread(bytes, 1, *count, file) != *count) { perror(path); exit(2); }
-    fclose(file);
-    return bytes;
-}
-
-enum { REPORTS = 20 };
+enum { REPORTS = 20, MOST = 1 << 25 };      /* lines; bytes of RAW */
 static size_t unexplained;
 
 static void report(const unsigned char *bytes, size_t count, size_t at, const char *line, ssize_t length, const char *expected)
@@ -52,17 +40,19 @@ static void judge(const unsigned char *bytes, size_t count)
     while (at < count) {
         struct code code = code_of(bytes + at, count - at);
         int size, error = 0;
+        bool is_same;
         memset(reading.refusals, 0, sizeof reading.refusals);
         reading.refusal = NULL;
         expect(&decoder, &code, &reading);
         do {
             reading.refusal = reading.refusals[error];
             size = reading_text(at, &reading, text, sizeof text);
-        } while ((length != size || memcmp(line, text, (size_t)size) != 0) && reading.refusal && reading.refusals[++error]);
+            is_same = length == size && memcmp(line, text, (size_t)size) == 0;
+        } while (!is_same && reading.refusal && reading.refusals[++error]);
         size_t place = length > 0 ? strtoull(line, NULL, 10) : count, next = at + (reading.refusal ? 1 : reading.length);
         lines++;
         refusals += reading.refusal != NULL;
-        if (length != size || memcmp(line, text, (size_t)size) != 0) report(bytes, count, at, line, length, text);
+        if (!is_same) report(bytes, count, at, line, length, text);
         if (place >= at) at = next;
         if (place < next) length = getline(&line, &room, stdin);
     }
@@ -74,16 +64,13 @@ static void judge(const unsigned char *bytes, size_t count)
 
 int main(int argc, char **argv)
 {
-    size_t count;
+    static unsigned char bytes[MOST + 1];
+    FILE *file = argc == 2 ? fopen(argv[1], "rb") : NULL;
+    size_t count = file != NULL ? fread(bytes, 1, sizeof bytes, file) : 0;
+    if (argc != 2) errx(2, "usage: judge RAW < LINES");
+    if (file == NULL || ferror(file)) err(2, "%s", argv[1]);
+    if (count > MOST) errx(2, "%s has more than %d bytes", argv[1], MOST);
     prepare_rules();
-    if (argc == 2 && strcmp(argv[1], "reasons") == 0) print_names();
-    else if (argc == 2) {
-        unsigned char *bytes = contents(argv[1], &count);
-        judge(bytes, count);
-        free(bytes);
-    } else {
-        fprintf(stderr, "usage: judge RAW < LINES | judge reasons\n");
-        return 2;
-    }
+    judge(bytes, count);
     return 0;
 }

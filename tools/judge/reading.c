@@ -2,7 +2,6 @@
 #include "judge.h"
 #include <stdio.h>
 #include <string.h>
-#include <strings.h>
 
 bool decode(const ZydisDecoder *decoder, const unsigned char *bytes, size_t left, struct reading *reading, ZyanStatus *status)
 {
@@ -12,22 +11,15 @@ bool decode(const ZydisDecoder *decoder, const unsigned char *bytes, size_t left
 
 static struct operand operand_of(const ZydisDecodedInstruction *read, const ZydisDecodedOperand *operand)
 {
-    struct operand shown = {.kind = REGISTER};
-    if (operand->type == ZYDIS_OPERAND_TYPE_REGISTER) shown.reg = operand->reg.value;
-    else if (operand->type == ZYDIS_OPERAND_TYPE_MEMORY) {
-        shown.kind = MEMORY;
-        shown.reg = operand->mem.base;
-        shown.index = operand->mem.index;
-        shown.scale = operand->mem.scale;
-        shown.value = operand->mem.disp.value;
-        shown.bits = read->raw.disp.size == 64 ? 64 : 32;
-    } else {
-        shown.kind = IMMEDIATE;
-        shown.value = operand->imm.value.s;
-        shown.is_signed = operand->imm.is_signed;
-        shown.bits = operand->size;
+    const ZydisDecodedOperandMem *mem = &operand->mem;
+    switch (operand->type) {
+    case ZYDIS_OPERAND_TYPE_REGISTER: return (struct operand){.kind = REGISTER, .reg = operand->reg.value};
+    case ZYDIS_OPERAND_TYPE_MEMORY:
+        return (struct operand){.kind = MEMORY, .reg = mem->base, .index = mem->index, .scale = mem->scale, .value = mem->disp.value,
+            .bits = read->raw.disp.size == 64 ? 64 : 32};
+    default:
+        return (struct operand){.kind = IMMEDIATE, .value = operand->imm.value.s, .is_signed = operand->imm.is_signed, .bits = operand->size};
     }
-    return shown;
 }
 
 /* The bytes of memory: those of the memory operand that is shown, else of the one that isn't, else of a register form the operand size. */

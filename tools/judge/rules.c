@@ -1,15 +1,15 @@
 /* Applies the reasons, and counts them. */
 #include "judge.h"
+#include <err.h>
 #include <stdio.h>
 #include <stdlib.h>
 #include <string.h>
 
-enum { MOST = 512, AT_ONE = 24 };
+enum { AT_ONE = 24 };
 
 /* One opcode byte of a row. */
 struct where {
-    const struct rule *rule;
-    int number;                  /* of the rule, for its counts */
+    struct rule *rule;
     unsigned columns, regs;      /* bits; no column means all */
     int form;                    /* 'r', 'm' or 0 */
     int modrm;                   /* or -1 */
@@ -17,24 +17,21 @@ struct where {
     bool rm0, any;
 };
 
-struct table {
-    struct where at[MAPS][256][AT_ONE];
-    int count[MAPS][256];
-};
+/* Of the bytes of a map, up to one without a rule. */
+typedef struct where table[MAPS][256][AT_ONE + 1];
+enum { REFUSED, OTHERWISE, CHANGED, TABLES };
+static struct rule *const rules[] = {refused, read_otherwise, changed};
+static table tables[TABLES];
 
-static struct table tables[3];
-static const struct rule *rules[MOST];
-static size_t counts[MOST];
-static int numbered;
-
-static void add(struct table *table, int map, int opcode, struct where where)
+static void add(struct where *at, struct where where)
 {
-    int *count = &table->count[map][opcode];
-    if (*count == AT_ONE) { fprintf(stderr, "judge: too many reasons at %02X\n", opcode); exit(2); }
-    table->at[map][opcode][(*count)++] = where;
+    int count = 0;
+    while (at[count].rule != NULL) count++;
+    if (count == AT_ONE) errx(2, "too many reasons at the opcode of: %s", where.rule->rows);
+    at[count] = where;
 }
 
-static void read_opcodes(struct table *table, int map, const char *word, struct where where)
+static void read_opcodes(struct where (*at)[AT_ONE + 1], const char *word, struct where where)
 {
     char *rest;
     int from = (int)strtol(word, &rest, 16), to = from;
@@ -45,8 +42,8 @@ static void read_opcodes(struct table *table, int map, const char *word, struct 
         for (rest++; *rest >= '0' && *rest <= '7'; rest++) where.regs |= 1u << (*rest - '0');
     }
     if (*rest == 'r' || *rest == 'm') where.form = *rest++;
-    if (*rest != '\0') { fprintf(stderr, "judge: not an opcode: %s\n", word); exit(2); }
-    for (int opcode = from; opcode <= to; opcode++) add(table, map, opcode, where);
+    if (*rest != '\0') errx(2, "not an opcode: %s", word);
+    for (int opcode = from; opcode <= to; opcode++) add(at[opcode], where);
 }
 
 /* The place of a word among four, or 4. */
@@ -70,25 +67,21 @@ static bool read_condition(const char *word, struct where *where)
     return true;
 }
 
-static void read_rule(struct table *table, const struct rule *rule)
+static void read_rule(table *table, struct rule *rule)
 {
     static const char *const maps[] = {"0:", "0F:", "0F38:", "0F3A:"};
-    struct where where = {.rule = rule, .number = numbered, .regs = 0xff, .modrm = -1};
-    char text[256];
-    int map = 4;
-    rules[numbered++] = rule;
+    char text[512], *rest = text, *words;
     snprintf(text, sizeof text, "%s", rule->rows);
-    for (char *word = strtok(text, " "); word != NULL; word = strtok(NULL, " ")) {
-        int named = place_of(word, maps);
-        if (named < 4) map = named;
-        else if (map < 4) read_opcodes(table, map, word, where);
-        else if (!read_condition(word, &where)) { fprintf(stderr, "judge: no such word: %s\n", word); exit(2); }
+    while ((words = strtok_r(rest, ";", &rest)) != NULL) {
+        struct where where = {.rule = rule, .regs = 0xff, .modrm = -1};
+        int map = 4;
+        for (char *word; (word = strtok_r(words, " ", &words)) != NULL;) {
+            int named = place_of(word, maps);
+            if (named < 4) map = named;
+            else if (map < 4) read_opcodes((*table)[map], word, where);
+            else if (!read_condition(word, &where)) errx(2, "no such word: %s", word);
+        }
     }
-}
-
-static bool agrees(int wanted, bool is)
-{
-    return wanted == 0 || (wanted > 0) == is;
 }
 
 static bool holds_of_modrm(const struct where *where, int modrm)
@@ -103,18 +96,18 @@ static bool holds(const struct where *where, const struct code *code)
     const bool prefixes[] = {code->p66, code->p67, has_w(code), code->rex & 4};
     if (where->columns && !(where->columns >> code->column & 1)) return false;
     for (int k = 0; k < 4; k++)
-        if (!agrees(where->prefixes[k], prefixes[k])) return false;
+        if (where->prefixes[k] && (where->prefixes[k] > 0) != prefixes[k]) return false;
     if (where->any && !(code->p66 || code->p67 || code->lock || code->segment || code->rex)) return false;
     return holds_of_modrm(where, code->modrm);
 }
 
-static const struct where *first(int number, const struct code *code)
+/* The first rule of a table that holds, or NULL. */
+static struct rule *first(int number, const struct code *code)
 {
     if (code->opcode < 0) return NULL;
-    const struct table *table = &tables[number];
-    for (int k = 0; k < table->count[code->map][code->opcode]; k++)
-        if (holds(&table->at[code->map][code->opcode][k], code)) return &table->at[code->map][code->opcode][k];
-    return NULL;
+    const struct where *at = tables[number][code->map][code->opcode];
+    while (at->rule != NULL && !holds(at, code)) at++;
+    return at->rule;
 }
 
 /* The code as which a row is read. */
@@ -142,30 +135,15 @@ static bool read_other(const ZydisDecoder *decoder, const struct code *code, con
     return false;
 }
 
-static bool is_same_operand(const struct operand *one, const struct operand *other)
-{
-    return one->kind == other->kind && one->reg == other->reg && one->index == other->index && one->scale == other->scale
-        && one->value == other->value && one->is_signed == other->is_signed && one->bits == other->bits && one->text == other->text;
-}
-
-static bool is_same(const struct reading *one, const struct reading *other)
-{
-    if (strcmp(one->name, other->name) != 0 || one->count != other->count || one->size != other->size) return false;
-    for (int k = 0; k < one->count; k++)
-        if (!is_same_operand(&one->operands[k], &other->operands[k])) return false;
-    return true;
-}
-
 static void apply_changes(const struct code *code, struct reading *reading)
 {
-    static struct reading before;
-    const struct table *table = &tables[2];
-    for (int k = 0; k < table->count[code->map][code->opcode]; k++) {
-        const struct where *where = &table->at[code->map][code->opcode][k];
-        if (!holds(where, code)) continue;
-        memcpy(&before, reading, offsetof(struct reading, read));
-        change(code, reading, where->rule->words);
-        if (!is_same(&before, reading)) counts[where->number]++;
+    char before[512], after[512];
+    for (const struct where *at = tables[CHANGED][code->map][code->opcode]; at->rule != NULL; at++) {
+        if (!holds(at, code)) continue;
+        reading_text(0, reading, before, sizeof before);
+        change(code, reading, at->rule->words);
+        reading_text(0, reading, after, sizeof after);
+        if (strcmp(before, after) != 0) at->rule->count++;
     }
 }
 
@@ -173,12 +151,9 @@ static void apply_changes(const struct code *code, struct reading *reading)
 static ZyanStatus status_without_lock(const ZydisDecoder *decoder, const struct code *code, struct reading *reading)
 {
     struct code other = *code;
-    unsigned char bytes[32];
-    size_t front;
-    ZyanStatus status;
+    ZyanStatus status = ZYDIS_STATUS_ILLEGAL_LOCK;
     other.lock = false;
-    if (!decode(decoder, bytes, spell(&other, bytes, &front), reading, &status)) return status;
-    return reading->read.length - front + code->front > LONGEST ? ZYDIS_STATUS_INSTRUCTION_TOO_LONG : ZYDIS_STATUS_ILLEGAL_LOCK;
+    return read_other(decoder, code, &other, reading, &status) ? ZYDIS_STATUS_ILLEGAL_LOCK : status;
 }
 
 /* Whether bytes that are cut off are the beginning of an instruction, by trying what could follow. */
@@ -232,20 +207,20 @@ void expect(const ZydisDecoder *decoder, const struct code *code, struct reading
     ZyanStatus status;
     struct code other = *code;
     bool is_read = decode(decoder, code->bytes, code->left, reading, &status);
-    const struct where *where = first(0, code);
-    if (where) {
-        if (is_read) counts[where->number]++;
+    struct rule *rule = first(REFUSED, code);
+    if (rule) {
+        if (is_read) rule->count++;
         refuse(decoder, code, NULL, ZYDIS_STATUS_DECODING_ERROR, reading);
         return;
     }
     if (is_read) read_as_here(reading);
-    where = first(1, code);
-    if (where) {
+    rule = first(OTHERWISE, code);
+    if (rule) {
         bool was_read = is_read;
         ZydisMnemonic was = reading->read.mnemonic;
-        other = other_code(code, where->rule->words);
+        other = other_code(code, rule->words);
         is_read = read_other(decoder, code, &other, reading, &status);
-        if (is_read && (!was_read || was != reading->read.mnemonic)) counts[where->number]++;
+        if (is_read && (!was_read || was != reading->read.mnemonic)) rule->count++;
     }
     if (is_read) { apply_changes(code, reading); return; }
     if (status == ZYDIS_STATUS_ILLEGAL_LOCK) status = status_without_lock(decoder, &other, reading);
@@ -254,22 +229,14 @@ void expect(const ZydisDecoder *decoder, const struct code *code, struct reading
 
 void prepare_rules(void)
 {
-    const struct rule *const lists[] = {refused, read_otherwise, changed};
-    for (int k = 0; k < 3; k++)
-        for (const struct rule *rule = lists[k]; rule->reason != NULL; rule++) {
-            if (numbered == MOST) { fprintf(stderr, "judge: too many rules\n"); exit(2); }
-            read_rule(&tables[k], rule);
-        }
+    for (int k = 0; k < TABLES; k++)
+        for (struct rule *rule = rules[k]; rule->reason != NULL; rule++) read_rule(&tables[k], rule);
 }
 
 /* A line for each rule that changed something: `reason COUNT REASON`, with a tab between. */
 void print_reasons(void)
 {
-    for (int k = 0; k < numbered; k++)
-        if (counts[k] > 0) printf("reason\t%zu\t%s\n", counts[k], rules[k]->reason);
-}
-
-void print_names(void)
-{
-    for (int k = 0; k < numbered; k++) puts(rules[k]->reason);
+    for (int k = 0; k < TABLES; k++)
+        for (const struct rule *rule = rules[k]; rule->reason != NULL; rule++)
+            if (rule->count > 0) printf("reason\t%zu\t%s\n", rule->count, rule->reason);
 }
