@@ -1,13 +1,12 @@
 -- The derivations of worked sentences and refusals.
 use Rattle.std.proofs.Common.{arith, ap, subst, ◌∙◌, ◌<◌, zero, suc, replicate, ◌≡◌, ◌≢◌, ◌≤◌, ℕ, Bool, true, false, List, [], ◌∷◌, ◌++◌}
-use Rattle.std.proofs.Common.{map, Option, Some, None, pos, Ok, Err, length, refl, sym, append-nil}
+use Rattle.std.proofs.Common.{Option, Some, None, pos, Ok, Err, length, refl, sym, append-nil}
 use mathlib.Core.Bool.{true≢false}
 use Rattle.x86_fields.specs.declared.errors.DecodeError.{DecodeError}
 use Rattle.x86_fields.specs.declared.errors.DecodeError.TheVariants.{ExhaustedInput, IncompleteDecoder, InvalidOpcode, InvalidOperand, InvalidPrefixes, TooLong}
 use Rattle.x86_fields.specs.declared.prefixes.Prefixes.{Prefixes}
 use Rattle.x86_fields.specs.declared.raw.Raw.{Raw}
 use Rattle.x86_fields.specs.Parts.{PartLists}
-use Rattle.x86_fields.specs.Pieces.{total}
 use Rattle.x86_fields.specs.Run.{reading_of}
 use Rattle.x86_forms.specs.declared.Map.{Map}
 use Rattle.x86_forms.specs.declared.Map.TheVariants.{One, Of, Of38, Of3a}
@@ -16,20 +15,15 @@ use Rattle.x86_forms.specs.declared.Form.TheVariants.{Gv_M, Ev_Gv, Gv_Ev, G_E_xm
 use Rattle.x86_forms.specs.declared.TableRow.{TableRow}
 use Rattle.x86_forms.specs.Rows.{printed_row}
 use Rattle.x86_opcodes.specs.Names.{Invalid, ADD, LEA, MOV, PSHUFB}
-use Rattle.x86_operands.specs.declared.operands.Slot.{Slot}
-use Rattle.x86_operands.specs.declared.operands.Operand.{Operand}
-use Rattle.x86_operands.specs.declared.plans.OperandEncoding.{OperandEncoding}
 use Rattle.x86_operands.specs.declared.plans.Fault.TheVariants.{BadOperand}
 use Rattle.x86_operands.specs.declared.plans.Verdict.TheVariants.{Accepts}
 use Rattle.x86_operands.specs.declared.reader.Reading.{Reading}
 use Rattle.x86_operands.specs.declared.plans.ModrmUse.TheVariants.{EitherForm}
-use Rattle.x86_operands.specs.Asks.{immediate_width}
+use Rattle.x86_operands.specs.Asks.{immediates_width}
 use Rattle.x86_operands.specs.Forms.{form_plan, form_record, modrm_use}
 use Rattle.x86_operands.specs.Rows.{form_rows}
-use Rattle.x86_operands.specs.Pieces.{SpellsOperands, SpellsMemory, operand_from, past_opcode}
+use Rattle.x86_operands.specs.Pieces.{SpellsMemory, past_opcode, reading_from}
 use Rattle.x86_groups.proofs.AddressLemmas.{refuses_at_once}
-use Rattle.x86_operands.specs.Plans.{plan_encodings}
-use Rattle.x86_operands.specs.PlanSteps.{four_of, reading_from}
 use Rattle.x86_operands.specs.Operands.{shape}
 use Rattle.x86_groups.specs.Rows.{group_rows}
 use Rattle.x86_groups.specs.Groups.{group_plan, group_record, record_of}
@@ -49,24 +43,6 @@ use Rattle.x86_cli.specs.Sentences.{HasError, HasErrorByBytes, Encodes, by_bytes
 use Rattle.x86_cli.proofs.HeadlineLemmas.Fields.{is_permitted, permits}
 use Rattle.x86_cli.proofs.HeadlineLemmas.Sentences.{whole_in}
 use Rattle.x86_cli.specs.Worked.{add_parts, no_row_parts, add_rax_rbx, mov_rax_at_rbp, neg_eax, add_at_rbx_rax, places_at, pshufb_xmm0_xmm1, add_eax_ebx}
-
--- the slots and operands of operand encodings without an immediate
-abbrev pairs_of : List OperandEncoding → Prefixes → ℕ → Option Raw → List (Slot × Operand)
-pairs_of encodings p m memory = map (λ s. operand_from s p m memory []) encodings
-
-pub no_immediates : (encodings : List OperandEncoding) (p : Prefixes) (m : ℕ) (memory : Option Raw) → total (map immediate_width encodings) ≡ 0 →
-    SpellsOperands encodings p m memory [] (pairs_of encodings p m memory)
-no_immediates [] p m memory none = (refl, refl)
-no_immediates (s ∷ rest) p m memory none =
-    record {
-      immediate = [];
-      tail = [];
-      others = _;
-      spelled = refl;
-      immediate_length = omega arith;
-      yields = refl;
-      tail_spelled = no_immediates rest p m memory (omega arith);
-    }
 
 -- An encoding with ModRM and without an immediate: a run, the opcode byte of a row, ModRM, and the SIB and displacement
 -- of its memory operand.
@@ -88,9 +64,9 @@ module _ (strict : Bool) (run : List ℕ) (in_map : Map) (opcode : ℕ) (row : T
       let s = run ++ (escape_bytes in_map ++ opcode ∷ m ∷ (sib ++ displacement)) in
       is_run run ≡ true → is_opcode in_map opcode ≡ true → printed_row in_map (column_of (reading_of run)) opcode ≡ Some row →
       r.at_opcode ≡ None → r.modrm ≡ EitherForm →
-      plan.verdict ≡ Accepts → total (map immediate_width (plan_encodings plan)) ≡ 0 → SpellsMemory plan.order.rm p m (sib ++ displacement) memory →
+      plan.verdict ≡ Accepts → immediates_width plan ≡ 0 → SpellsMemory plan.order.rm p m (sib ++ displacement) memory →
       length sib ≡ sib_width m →
-      reading ≡ reading_from plan p plan.opcode (four_of (pairs_of (plan_encodings plan) p m memory)) → allows_lock reading ≡ lawful → length s ≤ 15 →
+      reading ≡ reading_from plan p m plan.opcode memory [] → allows_lock reading ≡ lawful → length s ≤ 15 →
       Encodes printed_row strict lawful s (instruction_of reading (part_ends parts_at) (length s))
   sentence_of lawful reading prefixes is_opcode has_row passed modrm accepts none spelled long reads locks short =
       let p = seen_by in_map opcode (reading_of run) in
@@ -121,8 +97,7 @@ module _ (strict : Bool) (run : List ℕ) (in_map : Map) (opcode : ℕ) (row : T
         memory = memory;
         address_spelled = spelled;
         sib_length = long;
-        operands = _;
-        immediates_spelled = no_immediates _ _ _ _ none;
+        immediate_length = sym none;
         suffix_length = rw accepts refl;
         operation = (r.plan m).opcode;
         named = rw accepts refl;

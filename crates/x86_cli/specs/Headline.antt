@@ -8,7 +8,6 @@ use Rattle.x86_fields.specs.Linear.{raw_form, IsSameAddress}
 use Rattle.x86_fields.specs.ModRM.{reg_field}
 use Rattle.x86_fields.specs.Parts.{PartLists}
 use Rattle.x86_operands.specs.Pieces.{names_modrm}
-use Rattle.x86_operands.specs.Plans.{plan_encodings}
 use Rattle.x86_decode.specs.declared.instructions.Instruction.{Instruction}
 use Rattle.x86_decode.specs.Head.{Rows}
 use Rattle.x86_layout.specs.declared.parts.fields.Fields.{Fields}
@@ -54,7 +53,7 @@ module _ (rows : Rows) (strict : Bool) where
 
   -- The operand at k is spelled by ModRM as memory, with these raw fields.
   abbrev pub HasRaw : {s : List ℕ} {i : Instruction} → Sentence s i → ℕ → Raw → Type 0
-  HasRaw is k raw = (is.memory ≡ Some raw) × (names_modrm (plan_encodings is.plan) k ≡ true)
+  HasRaw is k raw = (is.memory ≡ Some raw) × (names_modrm is.plan k ≡ true)
 
   -- t is s in every part, but for mod and rm, SIB, displacement, and X and B of a live REX, and has the same address.
   module _ {s t : List ℕ} {i j : Instruction} (is : Sentence s i) (other : Sentence t j) where

@@ -10,14 +10,12 @@ use Rattle.x86_fields.specs.Parts.{PartLists}
 use Rattle.x86_forms.specs.declared.Map.{Map}
 use Rattle.x86_forms.specs.declared.TableRow.{TableRow}
 use Rattle.x86_operands.specs.declared.plans.Fault.{Fault}
-use Rattle.x86_operands.specs.declared.operands.Slot.{Slot}
-use Rattle.x86_operands.specs.declared.operands.Operand.{Operand}
 use Rattle.x86_operands.specs.declared.places.Places.{Places}
 use Rattle.x86_operands.specs.declared.reader.Reading.{Reading}
-use Rattle.x86_operands.specs.Plans.{Plan, RowRecord, is_refusal, plan_encodings}
-use Rattle.x86_operands.specs.PlanSteps.{error_of, four_of, reading_from}
-use Rattle.x86_operands.specs.Asks.{modrm_of}
-use Rattle.x86_operands.specs.Pieces.{SpellsMemory, SpellsOperands, RefusesRow, modrm_width, suffix_width, opcode_by}
+use Rattle.x86_operands.specs.Plans.{Plan, RowRecord, is_refusal}
+use Rattle.x86_operands.specs.PlanSteps.{error_of}
+use Rattle.x86_operands.specs.Asks.{immediates_width, modrm_of}
+use Rattle.x86_operands.specs.Pieces.{SpellsMemory, RefusesRow, modrm_width, suffix_width, opcode_by, reading_from}
 use Rattle.x86_groups.specs.Groups.{record_of}
 use Rattle.x86_decode.specs.declared.instructions.Instruction.{Instruction}
 use Rattle.x86_decode.specs.Instruction.{instruction_of}
@@ -62,13 +60,12 @@ module _ (rows : Rows) (strict : Bool) where
     pub memory : Option Raw
     pub address_spelled : SpellsMemory plan.order.rm seen modrm (parts.sib ++ parts.displacement) memory
     pub sib_length : length parts.sib ≡ sib_width modrm
-    pub operands : List (Slot × Operand)
-    pub immediates_spelled : SpellsOperands (plan_encodings plan) seen modrm memory parts.immediate operands
+    pub immediate_length : length parts.immediate ≡ immediates_width plan
     pub suffix_length : length parts.suffix ≡ suffix_width plan.verdict
     pub operation : ℕ
     pub named : opcode_by plan.verdict plan.opcode parts.suffix ≡ Some operation
     pub reading : Reading
-    pub reads : reading ≡ reading_from plan seen operation (four_of operands)
+    pub reads : reading ≡ reading_from plan seen modrm operation memory parts.immediate
     pub locks : allows_lock reading ≡ lawful
     pub yields : answer ≡ instruction_of reading (part_ends parts) (length s)
 

@@ -19,10 +19,10 @@ use Rattle.x86_operands.specs.declared.plans.Fault.TheVariants.{BadOperand}
 use Rattle.x86_operands.specs.declared.plans.ModrmUse.{ModrmUse}
 use Rattle.x86_operands.specs.declared.plans.ModrmUse.TheVariants.{EitherForm}
 use Rattle.x86_operands.specs.declared.reader.Reading.{Reading}
-use Rattle.x86_operands.specs.PlanSteps.{read_plan, operands_step, read_modrm, refuse_fault, four_of, reading_from}
+use Rattle.x86_operands.specs.PlanSteps.{read_plan, read_modrm, refuse_fault}
 use Rattle.x86_operands.specs.Places.{Placed, place_of, plan_places, plan_placed, record_placed}
 use Rattle.x86_operands.specs.Forms.{form_record}
-use Rattle.x86_operands.specs.Pieces.{SpellsTail, SpellsRow, past_opcode, modrm_width}
+use Rattle.x86_operands.specs.Pieces.{SpellsTail, SpellsRow, past_opcode, modrm_width, reading_from}
 use Rattle.x86_operands.specs.Asks.{modrm_of}
 use Rattle.x86_groups.proofs.AddressLemmas.{refuses_at_once}
 use Rattle.x86_groups.specs.Groups.{IsFenceWithRm, group_fault, group_modrm, group_plan, group_record, operandless, bad_operand}
@@ -54,7 +54,7 @@ compared_from (Err e) s f g each = same refl
 -- ---- plans
 
 abbrev fence_reading : ℕ → Prefixes → Reading
-fence_reading o p = reading_from (operandless o p) p o (four_of [])
+fence_reading o p = reading_from (operandless o p) p 0 o None []
 
 -- by the law of x86_groups on its two choices
 module _ (same_elsewhere : (row : TableRow) (p : Prefixes) (m : ℕ) → (group_plan row p m true ≡ group_plan row p m false) ⊎ IsFenceWithRm row.form p m)
@@ -63,7 +63,7 @@ module _ (same_elsewhere : (row : TableRow) (p : Prefixes) (m : ℕ) → (group_
   compared_row : (t : Bool) (n : ℕ) (row : TableRow) (p : Prefixes) (s : State ℕ) →
       Compared (record_placed n (if t then group_record true row p else form_record row p) p s)
       (record_placed n (if t then group_record false row p else form_record row p) p s)
-  unfolding record_placed group_record read_plan operands_step
+  unfolding record_placed group_record read_plan
   compared_row true n row p s =
       compared_from (refuse_fault (group_fault row.form p) s).answer (refuse_fault (group_fault row.form p) s).after _ _
       (λ _ t. compared_from (read_modrm (group_modrm row.form) t).answer (read_modrm (group_modrm row.form) t).after _ _
@@ -84,10 +84,9 @@ module _ (same_elsewhere : (row : TableRow) (p : Prefixes) (m : ℕ) → (group_
       address = [];
       immediates = [];
       suffix = [];
-      operand_pairs = [];
       spelled = refl;
       address_spelled = (refl, refl);
-      immediates_spelled = (refl, refl);
+      immediates_length = refl;
       suffix_length = refl;
     };
     opcode = o;

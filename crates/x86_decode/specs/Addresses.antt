@@ -2,23 +2,18 @@
 use Rattle.std.specs.Prelude.{ℕ, Bool, Option, List}
 use Rattle.x86_fields.specs.declared.raw.Raw.{Raw}
 use Rattle.x86_fields.specs.Run.{reading_of}
-use Rattle.x86_operands.specs.declared.plans.OperandEncoding.{OperandEncoding}
 use Rattle.x86_operands.specs.declared.reader.Reading.{Reading}
-use Rattle.x86_operands.specs.Plans.{Plan, plan_encodings}
+use Rattle.x86_operands.specs.Plans.{Plan}
 use Rattle.x86_operands.specs.Asks.{modrm_of}
 use Rattle.x86_decode.specs.Head.{Rows, seen_by}
 use Rattle.x86_groups.specs.Groups.{record_of}
 use Rattle.x86_decode.specs.Grammar.{Whole}
-pub use Rattle.x86_operands.specs.Pieces.{is_modrm_encoding, names_modrm}
+pub use Rattle.x86_operands.specs.Pieces.{names_modrm, writes_modrm}
 
 module _ (rows : Rows) (strict : Bool) (s : List ℕ) (reading : Reading) (w : Whole rows strict s reading) where
   -- the plan that the record of the encoding's row has at its ModRM
   abbrev pub plan_within : Plan
   plan_within = let r = record_of strict w.row (seen_by w.map w.opcode (reading_of w.run)) in r.plan (modrm_of r.modrm w.row_spelled.modrm)
-
-  -- the encodings of its operands
-  abbrev pub encodings_within : List OperandEncoding
-  encodings_within = plan_encodings plan_within
 
   -- the raw fields, in the memory form
   abbrev pub raw_within : Option Raw

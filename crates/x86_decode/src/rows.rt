@@ -2,10 +2,10 @@
 
 ghost use Rattle.std.specs.Prelude.{◌≡◌, ◌≢◌, ℕ, Bool, IfOk, IfSome, false};
 ghost use Rattle.x86_fields.specs.Steps.{outcome, then_from};
-ghost use Rattle.x86_operands.specs.OperandList.{value_if_ok, no_operands};
+ghost use Rattle.x86_operands.specs.OperandList.{value_if_ok};
 ghost use Rattle.x86_operands.specs.Places.{plan_placed};
 ghost use Rattle.x86_operands.specs.Plans.{RowRecord};
-ghost use Rattle.x86_operands.specs.PlanSteps.{read_modrm};
+ghost use Rattle.x86_operands.specs.PlanSteps.{no_operands, read_modrm};
 ghost use Rattle.x86_operands.specs.declared.heads.After.TheVariants as After;
 ghost use Rattle.x86_forms.specs.declared.TableRow.{TableRow};
 ghost use Rattle.x86_groups.specs.Heads.{Continues, IsReadAt, IsSure};

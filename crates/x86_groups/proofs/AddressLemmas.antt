@@ -5,10 +5,10 @@ use Rattle.std.proofs.lemmas.Bool.{or_cases}
 use Rattle.std.proofs.lemmas.Bool.Decides.{nat_tests}
 use Rattle.x86_forms.specs.Groups.{is_group}
 use Rattle.x86_forms.specs.declared.Form.TheVariants as form
-use Rattle.x86_operands.specs.Asks.{modrm_of}
+use Rattle.x86_operands.specs.Asks.{immediates_width, modrm_of}
 use Rattle.x86_operands.specs.Columns.{choose}
 use Rattle.x86_operands.specs.Forms.{form_plan, form_record, modrm_use}
-use Rattle.x86_operands.specs.Plans.{Plan, RowRecord, is_refusal, plan_encodings}
+use Rattle.x86_operands.specs.Plans.{Plan, RowRecord, is_refusal}
 use Rattle.x86_operands.specs.Pieces.{RefusesTail, after_pieces, suffix_width}
 use Rattle.x86_operands.specs.Rows.{form_rows}
 use Rattle.x86_operands.specs.declared.order.Position.TheVariants.{Nowhere}
@@ -75,16 +75,15 @@ address_is strict row p modrm accepted =
 -- ---- a plan that refuses after ModRM, and takes nothing before
 
 pub refuses_at_once : (plan : Plan) (p : Prefixes) (m : ℕ) (fault : Fault) → plan.verdict ≡ Refuses fault → plan.order.rm ≡ Nowhere →
-    plan_encodings plan ≡ [] → RefusesTail plan p m [] fault
+    immediates_width plan ≡ 0 → RefusesTail plan p m [] fault
 refuses_at_once plan p m fault is rm none =
     after_pieces is (record {
       memory = None;
       address = [];
       immediates = [];
       suffix = [];
-      operand_pairs = [];
       spelled = refl;
       address_spelled = (ap (λ at. has_address at m) rm, refl);
-      immediates_spelled = rw none (refl, refl);
+      immediates_length = sym none;
       suffix_length = sym (ap suffix_width is);
     })

@@ -1,6 +1,6 @@
 -- The records of the groups: forms of which ModRM or a suffix chooses the operation. With them every row of the opcode
 -- maps has its record. Source: Intel SDM volume 2, appendix A.4.
-use Rattle.std.specs.Prelude.{ℕ, Bool, true, false, not, ◌&&◌, if◌then◌else◌, Option, Some, None, is_some, ◌≡◌, ◌≢◌}
+use Rattle.std.specs.Prelude.{ℕ, Bool, true, false, not, ◌&&◌, if◌then◌else◌, Option, Some, None, is_some, List, [], ◌∷◌, ◌≡◌, ◌≢◌}
 use Rattle.x86_regs.specs.declared.Segment.{Segment}
 use Rattle.x86_groups.specs.Vocabulary.{Prefixes, Fault, BadOpcode, BadOperand, Refuses, ModrmUse, EitherForm, Registers, Form, TableRow}
 use Rattle.x86_groups.specs.Vocabulary.{rep, repnz, reg_field, rm_field, is_memory, operand_size}
@@ -10,7 +10,8 @@ use Rattle.x86_operands.specs.Plans.{Plan, RowRecord, reads}
 use Rattle.x86_operands.specs.Forms.{form_record}
 use Rattle.x86_forms.specs.declared.Form.TheVariants as form
 use Rattle.x86_operands.specs.Columns.{choose, plan_of_row}
-use Rattle.x86_operands.specs.Words.{Zero}
+use Rattle.x86_operands.specs.Words.{AfterAddress, M, Zero}
+use Rattle.x86_operands.specs.declared.plans.OperandEncoding.{OperandEncoding}
 use Rattle.x86_groups.specs.Rows.{group_rows}
 use Rattle.x86_opcodes.specs.Names.{Invalid, LFENCE, MFENCE, SFENCE}
 
@@ -59,6 +60,14 @@ operandless opcode p = reads opcode Zero 0 p 0
 
 abbrev pub bad_operand : Prefixes → Plan
 bad_operand p = record (operandless Invalid p) { verdict = Refuses BadOperand }
+
+-- the parts that operands are
+abbrev pub parts_of : Plan → List OperandEncoding
+parts_of plan = plan.rm ∷ plan.reg ∷ plan.last ∷ plan.extra ∷ []
+
+-- its one operand is memory at ModRM's address
+abbrev pub TakesAddress : Plan → Type 0
+TakesAddress plan = (plan.order ≡ AfterAddress.order) × (plan.rm ≡ M)
 
 -- ---- where the choices differ. Source: Intel SDM volume 2, appendix A.4, group 15
 

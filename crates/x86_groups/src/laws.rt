@@ -1,7 +1,7 @@
 //! What holds of the records of all groups, over the definitions alone, and where the default and the strict choice
 //! differ.
 
-ghost use Rattle.std.specs.Prelude.{◌≡◌, ◌≢◌, ◌≤◌, ◌⊎◌, ◌∷◌, [], ℕ, Bool, true, false, All, Option, Some, None, Err};
+ghost use Rattle.std.specs.Prelude.{◌≡◌, ◌≢◌, ◌≤◌, ◌⊎◌, ℕ, Bool, true, false, All, Option, Some, None, Err};
 ghost use Rattle.x86_arch.specs.Reader.{State};
 ghost use Rattle.x86_fields.specs.declared.errors.DecodeError.TheVariants.{IncompleteDecoder};
 ghost use Rattle.x86_fields.specs.declared.prefixes.Prefixes.{Prefixes};
@@ -12,10 +12,9 @@ ghost use Rattle.x86_forms.specs.Groups.{is_group};
 ghost use Rattle.x86_operands.specs.declared.plans.Fault.TheVariants.{Incomplete};
 ghost use Rattle.x86_operands.specs.declared.plans.Verdict.TheVariants.{Refuses};
 ghost use Rattle.x86_operands.specs.declared.plans.OperandEncoding.TheVariants.{ConstantU8};
-ghost use Rattle.x86_operands.specs.Words.{M};
-ghost use Rattle.x86_operands.specs.Plans.{plan_encodings};
+ghost use Rattle.x86_operands.specs.Pieces.{IsOrdered};
 ghost use Rattle.x86_operands.specs.PlanSteps.{immediate_read, known_operand, record_step};
-ghost use Rattle.x86_groups.specs.Groups.{IsFenceWithRm, group_record, group_plan, operandless, bad_operand, record_of};
+ghost use Rattle.x86_groups.specs.Groups.{IsFenceWithRm, TakesAddress, group_record, group_plan, operandless, bad_operand, parts_of, record_of};
 
 use x86_forms::Form;
 use x86_operands::{Operand, Slot};
@@ -37,7 +36,7 @@ pub fn groups_are_built()
     ensures address { (strict : Bool) (row : TableRow) (p : Prefixes) (m : ℕ) →
         is_group row.form ≡ true →
         ((group_record strict row p).plan m).verdict ≡ Refuses Incomplete →
-        plan_encodings ((group_record strict row p).plan m) ≡ M ∷ [] }
+        TakesAddress ((group_record strict row p).plan m) }
     ensures answer { (strict : Bool) (row : TableRow) (p : Prefixes) (s : State ℕ) →
         is_group row.form ≡ true →
         (record_step (group_record strict row p) p s).answer ≡ Err IncompleteDecoder →
@@ -49,6 +48,13 @@ pub fn groups_are_built()
 pub fn group_sizes_are_small()
     ensures { (strict : Bool) (row : TableRow) (p : Prefixes) (m : ℕ) →
         ((group_record strict row p).plan m).size ≤ 64 }
+{}
+
+/// The operands of each row are in order.
+#[tactic(auto, using(crate::proofs::GroupLemmas::record_in_order))]
+pub fn operands_are_in_order()
+    ensures { (strict : Bool) (row : TableRow) (p : Prefixes) →
+        IsOrdered (record_of strict row p) }
 {}
 
 /// The default and the strict choice differ on LFENCE, MFENCE and SFENCE with rm other than 0, and on nothing else:
@@ -68,12 +74,11 @@ pub fn choices_differ_on_fences()
         IsFenceWithRm row.form p m → group_plan row p m true ≡ bad_operand p }
 {}
 
-/// Of an operand in the plan of any row, for which no byte is read, `known_operand` makes an unsigned 0 only where the row
+/// Of a part in the plan of any row, for which no byte is read, `known_operand` makes an unsigned 0 only where the row
 /// has this constant: so its last line, for what no plan has, is reached by none.
-#[tactic(auto, using(crate::proofs::KnownLemmas::operands_known))]
 pub fn operands_are_known()
     ensures { (strict : Bool) (row : TableRow) (p q : Prefixes) (m n : ℕ) (memory : Option Raw) →
         All (λ s. immediate_read s ≡ None → known_operand s q m memory
         ≡ (Slot.ImmU8, Operand.ImmediateU8 0) → s ≡ ConstantU8 0)
-        (plan_encodings ((record_of strict row p).plan n)) }
+        (parts_of ((record_of strict row p).plan n)) }
 {}

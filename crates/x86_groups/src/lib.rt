@@ -8,9 +8,9 @@ ghost use Rattle.std.specs.Prelude.{◌≡◌, true};
 ghost use Rattle.x86_arch.specs.Reader.{State};
 ghost use Rattle.x86_fields.specs.Steps.{outcome};
 ghost use Rattle.x86_forms.specs.Groups.{is_group};
-ghost use Rattle.x86_operands.specs.PlanSteps.{record_step};
+ghost use Rattle.x86_operands.specs.PlanSteps.{no_operands, reading_with, record_step};
 ghost use Rattle.x86_operands.specs.Places.{plan_placed, record_placed};
-ghost use Rattle.x86_operands.specs.OperandList.{value_if_ok, no_operands, reading_with};
+ghost use Rattle.x86_operands.specs.OperandList.{value_if_ok};
 ghost use Rattle.x86_forms.specs.Words.{IsForm};
 ghost use Rattle.x86_groups.specs.Groups.{group_record, record_of};
 

@@ -3,6 +3,7 @@ pub mod Raw
 pub mod Shortest
 pub mod Address
 pub mod Rex
+pub mod Operands
 pub mod Respell
 pub mod PlanAlike
 pub mod Relative

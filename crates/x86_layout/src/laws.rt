@@ -3,7 +3,7 @@
 ghost use Rattle.std.specs.Prelude.{◌≡◌, ◌↔◌, ℕ, ◌+◌, ◌^◌, ◌<◌, ◌≤◌, Bool, false, IsTrue, List, [], ◌∷◌, ◌++◌, length, take, drop, Ok, Option, Some, true};
 ghost use Rattle.std.specs.Iterator.{YieldsFirst, item_count};
 ghost use Rattle.std.specs.List.{sum_by, All};
-ghost use Rattle.x86_decode.specs.Addresses.{names_modrm, encodings_within, raw_within};
+ghost use Rattle.x86_decode.specs.Addresses.{names_modrm, plan_within, raw_within};
 ghost use Rattle.x86_decode.specs.Answer.{answer_of};
 ghost use Rattle.x86_layout.specs.Sweeps.Pieces.{CutsGoOn, CutsOfMore, CutsJoin};
 ghost use Rattle.x86_layout.specs.declared.sweeps.control.Flow.{Flow};
@@ -159,7 +159,7 @@ pub fn memory_operands_have_their_address()
     ensures { (strict : Bool) (s : List ℕ) (a : Instruction)
         (is : IsSentence (rows_of packed) strict s a) (raw : Raw) (k : ℕ) →
         raw_within (rows_of packed) strict s is.reading is.whole ≡ Some raw →
-        names_modrm (encodings_within (rows_of packed) strict s is.reading is.whole) k ≡ true →
+        names_modrm (plan_within (rows_of packed) strict s is.reading is.whole) k ≡ true →
         All (λ byte. byte < 256) s → (regs : List ℕ) (next : ℕ) →
         address_at a k regs next ≡ Some (value_at (raw_form raw) regs next) }
 {

@@ -1,25 +1,24 @@
 -- What the columns of the first row have: a small size and few immediates, and what it goes by in the memory form.
 use Rattle.std.proofs.Common.{◌&&◌, ◌≡◌, inl, inr, ◌≤◌, ℕ, ◌+◌, nat_lt, Bool, true, false, not, ◌||◌, List, [], ◌∷◌, refl, sym, ap, ◌∙◌}
 use Rattle.std.proofs.Common.{arith, true≢false, ◌≢◌, if◌then◌else◌, rules}
-use Rattle.std.specs.List.{list_all, list_any}
+use Rattle.std.specs.List.{list_all}
 use Rattle.std.proofs.lemmas.Bool.{and_parts, or_cases, and_left, ltb-true}
 use Rattle.std.proofs.lemmas.Bool.Decides.{nat_tests}
-use Rattle.x86_operands.specs.Vocabulary.{Prefixes, Size, OperandEncoding, Position, Nowhere, TableRow, Template, BadOpcode, reg_field, is_memory}
+use Rattle.x86_operands.specs.Vocabulary.{Prefixes, Size, OperandEncoding, Position, Nowhere, TableRow, Template, Width, BadOpcode, reg_field, is_memory}
 use Rattle.x86_operands.specs.Vocabulary.{RegisterClass, Incomplete, Verdict, Refuses, width_of, has_r, has_w, repnz, rep}
 use Rattle.x86_operands.specs.RowVocabulary.{Names, Place, Reg, When, Rm, ByRm, TemplateRow}
 use Rattle.x86_operands.specs.Words.{AtModRM, otherwise}
 use Rattle.x86_forms.specs.Words.{carried}
-use Rattle.x86_operands.specs.Plans.{is_refusal}
-use Rattle.x86_operands.specs.Pieces.{is_modrm_encoding}
+use Rattle.x86_operands.specs.Plans.{Plan, is_refusal}
+use Rattle.x86_operands.specs.Pieces.{is_modrm_encoding, writes_modrm}
 use Rattle.x86_operands.specs.declared.sizing.Size.TheVariants as size
 use Rattle.x86_operands.specs.declared.plans.OperandEncoding.TheVariants as encoding
 use Rattle.x86_operands.specs.Asks.{immediate_width, immediates_width, part_width}
 use Rattle.x86_operands.specs.Encodings.{settled, size_bytes}
-use Rattle.x86_operands.specs.Templates.{is_register_place, is_sound, size_at}
+use Rattle.x86_operands.specs.Templates.{fixed_encoding, is_order, is_register_place, is_sound, reg_encoding, rm_encoding, size_at, somewhere}
 use Rattle.x86_operands.specs.Columns.{choose, opcode_of, plan_of_row, is_there, is_placed, is_reg, is_rm, is_prefixed, is_named}
 use Rattle.x86_operands.specs.declared.rows.Rm.TheVariants as rms
 use Rattle.x86_operands.specs.declared.rows.When.TheVariants as when
-use Rattle.x86_operands.proofs.TemplateLemmas.{row_encodings, row_width}
 
 -- ---- what each row has, the first has
 
@@ -161,7 +160,10 @@ module _ (gaps : Bool) (own : TableRow) (strict : Bool) (p : Prefixes) (m : ℕ)
       let n = carried own.form in
       let parts = and_parts (is_sound t) (few t) (and_parts (gaps || not (has_gap row.verdict)) _ h).1 in
       narrow_by (immediates_width (plan_of_row row own p m)) (part_width t.order.last (settled t.last n p)) (part_width t.order.extra (settled t.extra n p))
-      (most t.last) (most t.extra) (row_width row own p m parts.0) (part_most t.order.last t.last n p) (part_most t.order.extra t.extra n p) parts.1
+      (most t.last) (most t.extra) refl (part_most t.order.last t.last n p) (part_most t.order.extra t.extra n p) parts.1
+
+  pub in_order : (row : TemplateRow) → row_fits gaps row ≡ true → is_order row.template.order ≡ true
+  in_order row h = (and_parts (is_order row.template.order) _ (and_parts (is_sound row.template) _ (and_parts (gaps || not (has_gap row.verdict)) _ h).1).0).0
 
 pub without_gap : (row : TemplateRow) → row_fits false row ≡ true → row.verdict ≢ Refuses Incomplete
 without_gap row h e = absurd (true≢false (sym (and_parts (not (has_gap row.verdict)) _ h).0 ∙ ap (λ v. not (has_gap v)) e))
@@ -169,16 +171,18 @@ without_gap row h e = absurd (true≢false (sym (and_parts (not (has_gap row.ver
 -- ---- two ModRM bytes of the memory form that have the same reg, under prefixes that differ in X and B alone
 
 abbrev pub rm_free_encoding : OperandEncoding → Bool
+rm_free_encoding (encoding.E w) = false
+rm_free_encoding encoding.Emm = false
 rm_free_encoding encoding.StRm = false
 rm_free_encoding encoding.RdInReg = false
 rm_free_encoding (encoding.Z at w n) = false
 rm_free_encoding (encoding.A w) = false
 rm_free_encoding s = true
 
--- nothing of it goes by rm, X or B; and it refuses, or has a memory operand
+-- no name of it goes by rm; and it refuses, or has a memory operand, and no other operand that goes by rm, X or B
 abbrev pub in_memory : TemplateRow → Bool
-in_memory row = no_rm_names row.names && (list_all rm_free_encoding (row_encodings row)
-    && (is_refusal row.verdict || list_any is_modrm_encoding (row_encodings row)))
+in_memory row = no_rm_names row.names && (is_refusal row.verdict || ((somewhere row.template.order.rm
+    && is_modrm_encoding (rm_encoding row.template.rm)) && (rm_free_encoding row.template.last && rm_free_encoding row.template.extra)))
 
 abbrev pub row_in_memory : TemplateRow → Bool
 row_in_memory row = is_register_place row.at.place || in_memory row
@@ -208,6 +212,32 @@ module _ (own : TableRow) (p q : Prefixes) (m n : ℕ) (h : SamePrefixes p q) wh
         mem,
         size_alike (size_at row.template n) own.opcode p q h,
       ) refl
+
+-- so does its plan
+abbrev pub has_memory_alone : Plan → Bool
+has_memory_alone plan = writes_modrm plan && (rm_free_encoding plan.last && (rm_free_encoding plan.extra && rm_free_encoding plan.reg))
+
+abbrev pub plan_in_memory : Plan → Bool
+plan_in_memory plan = is_refusal plan.verdict || has_memory_alone plan
+
+settled_free : (s : OperandEncoding) (n : ℕ) (p : Prefixes) → rm_free_encoding (settled s n p) ≡ rm_free_encoding s
+settled_free s n p = grind arith
+
+reg_free : (rm of_opcode : Bool) (w : Width) (n : ℕ) → rm ≡ true → rm_free_encoding (if rm then reg_encoding w else fixed_encoding of_opcode w n) ≡ true
+reg_free rm of_opcode w n h = grind arith
+
+-- with an operand of rm that of reg is a register of ModRM
+with_reg : (refuses there memory last extra reg : Bool) → (there ≡ true → reg ≡ true) → (refuses || ((there && memory) && (last && extra))) ≡ true →
+    (refuses || ((there && memory) && (last && (extra && reg)))) ≡ true
+with_reg refuses there memory last extra reg free h = grind (arith, free)
+
+pub chosen_in_memory : (row : TemplateRow) (own : TableRow) (p : Prefixes) (m : ℕ) → in_memory row ≡ true → plan_in_memory (plan_of_row row own p m) ≡ true
+chosen_in_memory row own p m h =
+    let t = row.template in
+    let n = carried own.form in
+    rw (settled_free t.last n p, settled_free t.extra n p)
+    (with_reg (is_refusal row.verdict) (somewhere t.order.rm) (is_modrm_encoding (rm_encoding t.rm)) (rm_free_encoding t.last) (rm_free_encoding t.extra)
+    _ (reg_free (somewhere t.order.rm) t.of_opcode t.reg n) (and_parts (no_rm_names row.names) _ h).1)
 
 -- in the memory form the first row refuses, or has a memory operand
 pub first_in_memory : (rows : List TemplateRow) (own : TableRow) (strict : Bool) (p : Prefixes) (m : ℕ) → list_all keeps_reg rows ≡ true →

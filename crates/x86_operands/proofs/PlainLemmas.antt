@@ -10,11 +10,11 @@ use Rattle.x86_operands.specs.PlanSteps.{record_step}
 use Rattle.x86_operands.specs.RowVocabulary.{TemplateRow}
 use Rattle.x86_operands.specs.Columns.{choose}
 use Rattle.x86_operands.specs.Asks.{immediates_width}
-use Rattle.x86_operands.specs.Templates.{size_at}
+use Rattle.x86_operands.specs.Templates.{is_order, size_at}
 use Rattle.x86_operands.specs.Forms.{form_plan, form_record, modrm_use}
 use Rattle.x86_operands.specs.Rows.{form_rows}
 use Rattle.x86_operands.proofs.RecordLemmas.{HasGap, row_left_out}
-use Rattle.x86_operands.proofs.ColumnLemmas.{without_gap, at_most_64, at_most_8, chosen_fits, keeps_reg, row_fits}
+use Rattle.x86_operands.proofs.ColumnLemmas.{without_gap, at_most_64, at_most_8, chosen_fits, in_order, keeps_reg, row_fits}
 
 rows_fit : (f : Form) → list_all (row_fits (is_group f)) (form_rows f) ≡ true
 unfolding form_rows
@@ -45,6 +45,10 @@ module _ (row : TableRow) (p : Prefixes) (m : ℕ) where
   pub plain_narrow : immediates_width ((form_record row p).plan m) ≤ 8
   unfolding form_record form_plan
   plain_narrow = at_most_8 (is_group row.form) row false p m first fits
+
+  pub plain_in_order : is_order ((form_record row p).plan m).order ≡ true
+  unfolding form_record form_plan
+  plain_in_order = in_order (is_group row.form) row false p m first fits
 
 -- a row of a plain form is never left out
 pub plain_read : (row : TableRow) (p : Prefixes) (s : State ℕ) → is_group row.form ≡ false →

@@ -1,8 +1,9 @@
 -- What a plan takes, and where it ends: its pieces, one after another, and its opcode or its refusal.
-use Rattle.std.proofs.Common.{◌≡◌, ℕ, ◌+◌, Bool, true, false, if◌then◌else◌, List, [], ◌∷◌, ◌++◌, length, map, Option, Some, None, Result, Ok, Err, refl}
-use Rattle.std.proofs.Common.{sym, ap, subst, ◌∙◌, inl, inr, length-append, ◌≢◌, ◌⊎◌, arith}
-use Rattle.std.proofs.lemmas.List.{append-nil, nil_from_length}
-use Rattle.x86_operands.specs.Vocabulary.{DecodeError, Prefixes, Raw, Slot, Operand, OperandEncoding, Position, Fault, Verdict, Reading, Operands}
+use Rattle.std.proofs.Common.{◌≡◌, ℕ, Bool, true, false, if◌then◌else◌, List, [], ◌∷◌, ◌++◌, length, take, drop, Option, Some, None, Result, Ok, Err}
+use Rattle.std.proofs.Common.{refl, sym, ap, ap₂, subst, ◌∙◌, inl, inr, append_assoc, length-append, length-take, length-drop, ◌≢◌, ◌⊎◌, arith}
+use Rattle.std.proofs.Math.Seq.{take-append_seam, drop-append_seam}
+use Rattle.std.proofs.lemmas.List.{append-nil, nil_from_length, take-append-drop}
+use Rattle.x86_operands.specs.Vocabulary.{DecodeError, Prefixes, Raw, Position, Fault, Verdict, Reading, Operands}
 use Rattle.x86_operands.specs.Vocabulary.{BadOpcode, Accepts, NamedBySuffix, Refuses}
 use Rattle.x86_fields.specs.Raw.{read_raw}
 use Rattle.x86_fields.specs.Steps.{Step, pure, ◌>>=◌, outcome, refuse, next_byte}
@@ -10,15 +11,16 @@ use Rattle.x86_fields.specs.Pieces.{SpellsRaw, EndsBetween, raw_widths, total}
 use Rattle.x86_fields.proofs.StepLemmas.{Takes, takes_pure, takes_bind, takes_err, takes_byte}
 use Rattle.x86_fields.proofs.EndLemmas.{EndsWell, IsEmpty, IsFinal, Only, ends_pure, ends_bind, ends_then, ends_map, Halts, halts_bind, halts_empty}
 use Rattle.x86_fields.proofs.EndLemmas.{halts_same, over, final_ok, final_other, bind_assoc, IsByte, ends_byte, ends_refuse, final_err}
-use Rattle.x86_fields.proofs.PieceLemmas.{takes_map, ends_raw, takes_raw, halts_raw, raw_long, none_there, more_missing, more_there, FirstPiece, nothing}
-use Rattle.x86_fields.proofs.PieceLemmas.{piece, first_piece, between_nil}
-use Rattle.x86_operands.specs.Plans.{Plan, plan_encodings, is_refusal}
-use Rattle.x86_operands.specs.PlanSteps.{operands_step, four_of, read_opcode, address_step, read_plan, reading_from, error_of, suffix_opcode}
-use Rattle.x86_operands.specs.Asks.{immediate_width}
+use Rattle.x86_fields.proofs.PieceLemmas.{takes_map, ends_raw, takes_raw, halts_raw, halts_piece, raw_long, none_there, one_there, more_missing, more_there}
+use Rattle.x86_fields.proofs.PieceLemmas.{FirstPiece, nothing, piece, first_piece, between_nil}
+use Rattle.x86_operands.specs.Plans.{Plan, is_refusal}
+use Rattle.x86_operands.specs.PlanSteps.{address_step, changed, ended, error_of, known_operand, leading_read, other_read, put_in, read_opcode, read_plan}
+use Rattle.x86_operands.specs.PlanSteps.{reading_with, rm_read, sized, suffix_opcode}
+use Rattle.x86_operands.specs.Asks.{part_width}
 use Rattle.x86_operands.specs.Templates.{has_address}
-use Rattle.x86_operands.specs.Pieces.{SpellsOperands, SpellsMemory, SpellsPieces, SpellsTail, RefusesTail, after_pieces, no_name, suffix_width}
-use Rattle.x86_operands.specs.Pieces.{memory_widths, plan_widths, tail_widths, opcode_by}
-use Rattle.x86_operands.proofs.OperandLemmas.{ends_operands, takes_operands, halts_operands}
+use Rattle.x86_operands.specs.Pieces.{SpellsMemory, SpellsPieces, SpellsTail, RefusesTail, after_pieces, no_name, suffix_width}
+use Rattle.x86_operands.specs.Pieces.{memory_widths, tail_widths, opcode_by, operand_from, operands_from, reading_from}
+use Rattle.x86_operands.proofs.OperandLemmas.{IsPut, reads_other}
 use Rattle.std.specs.Option.{option_map_or}
 use Rattle.x86_fields.specs.declared.errors.DecodeError.TheVariants.{ExhaustedInput, InvalidOpcode}
 
@@ -118,13 +120,6 @@ module _ (at : Position) (p : Prefixes) (m : ℕ) where
   memory_long q rest (Some raw) h = raw_long p m q rest raw h.1 ∙ ap (λ b. total (if b then raw_widths m (q ++ rest) else [])) (sym h.0)
   memory_long q rest None h = ap length h.1 ∙ ap (λ b. total (if b then raw_widths m (q ++ rest) else [])) (sym h.0)
 
--- the immediates have the widths of the operands
-operands_long : (p : Prefixes) (m : ℕ) (memory : Option Raw) (encodings : List OperandEncoding) (q : List ℕ)
-    (operand_pairs : List (Slot × Operand)) → SpellsOperands encodings p m memory q operand_pairs → length q ≡ total (map immediate_width encodings)
-operands_long p m memory [] q operand_pairs h = ap length h.0
-operands_long p m memory (s ∷ rest) q operand_pairs h = ap length h.spelled ∙ length-append h.immediate h.tail
-    ∙ ap (λ n. n + length h.tail) h.immediate_length ∙ ap (λ n. immediate_width s + n) (operands_long p m memory rest h.tail h.others h.tail_spelled)
-
 -- ---- the pieces in order
 
 abbrev pub PlanYields : Plan → Prefixes → ℕ → List ℕ → Result Reading DecodeError → Type 0
@@ -141,100 +136,158 @@ module _ (plan : Plan) (p : Prefixes) (m : ℕ) where
   abbrev at : Position
   at = plan.order.rm
 
-  abbrev Pairs : Type 0
-  Pairs = List (Slot × Operand)
-
-  abbrev encodings : List OperandEncoding
-  encodings = plan_encodings plan
-
   abbrev Yields : List ℕ → Result Reading DecodeError → Type 0
   Yields q r = PlanYields plan p m q r
 
   abbrev Between : List ℕ → Type 0
   Between q = PlanBetween plan m q
 
-  abbrev after_operands : Operands → Step Reading
-  after_operands operand_pairs = read_opcode v plan.opcode >>= λ opcode. pure (reading_from plan p opcode operand_pairs)
+  -- how long the immediates are, and what follows SIB and displacement
+  abbrev last_width : ℕ
+  last_width = part_width plan.order.last plan.last
 
-  abbrev after_memory : Option Raw → Step Reading
-  after_memory memory = operands_step encodings p m memory >>= λ xs. after_operands (four_of xs)
+  abbrev extra_width : ℕ
+  extra_width = part_width plan.order.extra plan.extra
 
-  abbrev made : (memory : Option Raw) (address immediates suffix tail : List ℕ) (operand_pairs : Pairs) → tail ≡ address
-      ++ (immediates ++ suffix) → SpellsMemory at p m address memory → SpellsOperands encodings p m memory immediates operand_pairs →
-      length suffix ≡ suffix_width v → SpellsPieces plan p m tail
-  made memory address immediates suffix tail operand_pairs e h s w =
-      record {
-        memory = memory;
-        address = address;
-        immediates = immediates;
-        suffix = suffix;
-        operand_pairs = operand_pairs;
-        spelled = e;
-        address_spelled = h;
-        immediates_spelled = s;
-        suffix_length = w;
-      }
+  abbrev widths : List ℕ
+  widths = last_width ∷ extra_width ∷ suffix_width v ∷ []
+
+  -- the operands of rm and reg, and all of them
+  abbrev leading : Option Raw → Operands
+  leading memory = put_in plan.order.reg (known_operand plan.reg p m None)
+      (put_in at (known_operand plan.rm p m memory) (sized plan.order.count plan.size))
+
+  abbrev written : Option Raw → List ℕ → List ℕ → Operands
+  written memory last extra = put_in plan.order.extra (operand_from plan.extra p m extra)
+      (put_in plan.order.last (operand_from plan.last p m last) (leading memory))
+
+  abbrev leading_step : Step Operands
+  leading_step = leading_read plan.order plan.reg plan.rm p m (sized plan.order.count plan.size)
+
+  abbrev last_step : Operands → Step Operands
+  last_step = other_read plan.order.last plan.last p m
+
+  abbrev extra_step : Operands → Step Operands
+  extra_step = other_read plan.order.extra plan.extra p m
+
+  abbrev after_last : Operands → Step Reading
+  after_last x = extra_step x >>= ended plan p
+
+  abbrev after_leading : Operands → Step Reading
+  after_leading x = last_step x >>= after_last
+
+  in_two : (memory : Option Raw) (last extra : List ℕ) → length last ≡ last_width →
+      written memory last extra ≡ operands_from plan p m memory (last ++ extra)
+  in_two memory last extra e =
+      let parts : (take last_width (last ++ extra) ≡ last) × (drop last_width (last ++ extra) ≡ extra) =
+      (cc (take-append_seam last extra), cc (drop-append_seam last extra)) in
+      ap₂ (λ a b. written memory a b) (sym parts.0) (sym parts.1)
+
+  abbrev made : (memory : Option Raw) (address last extra suffix tail : List ℕ) → tail ≡ address ++ (last ++ (extra ++ suffix)) →
+      SpellsMemory at p m address memory → length last ≡ last_width → length extra ≡ extra_width → length suffix ≡ suffix_width v → SpellsPieces plan p m tail
+  made memory address last extra suffix tail e h l x w = record {
+    memory = memory;
+    address = address;
+    immediates = last ++ extra;
+    suffix = suffix;
+    spelled = e ∙ ap (λ q. address ++ q) (sym (append_assoc last extra suffix));
+    address_spelled = h;
+    immediates_length = let both = length-append last extra in omega (arith, both, l, x);
+    suffix_length = w;
+  }
 
   refuses : {tail : List ℕ} {fault : Fault} (pieces : SpellsPieces plan p m tail) → IsEnd v plan.opcode pieces.suffix fault → RefusesTail plan p m tail fault
   refuses pieces (inl is) = after_pieces is pieces
   refuses pieces (inr is) = no_name pieces is.0 is.1 is.2
 
-  -- after the operands
-  ends_after_operands : (memory : Option Raw) (address immediates : List ℕ) (operand_pairs : Pairs) → SpellsMemory at p m address memory →
-      SpellsOperands encodings p m memory immediates operand_pairs →
-      EndsWell (λ l r. Yields (address ++ (immediates ++ l)) r) (λ l. Between (address ++ (immediates ++ l))) (after_operands (four_of operand_pairs))
-  ends_after_operands memory address immediates operand_pairs h s =
-      ends_bind (IsNamed v plan.opcode) IsEmpty (λ l r. Yields (address ++ (immediates ++ l)) r)
-      (λ l. Between (address ++ (immediates ++ l))) (read_opcode v plan.opcode)
-      (λ opcode. pure (reading_from plan p opcode (four_of operand_pairs))) (ends_opcode v plan.opcode)
-      (λ q e. more_there (memory_widths at m (address ++ (immediates ++ q))) (plan_widths plan) address (immediates ++ q)
-      (memory_long at p m address (immediates ++ q) memory h)
-      (more_there (map immediate_width encodings) (suffix_width v ∷ []) immediates q
-      (operands_long p m memory encodings immediates operand_pairs s) (none_there (suffix_width v ∷ []) q e)))
-      (λ q e k. (k.1.0, k.1.1, refuses (made memory address immediates q (address ++ (immediates ++ q)) operand_pairs refl h s k.0) k.1.2))
-      (λ q opcode k.
-      ends_pure (λ l r. Yields (address ++ (immediates ++ (q ++ l))) r) (λ l. Between (address ++ (immediates ++ (q ++ l))))
-      (reading_from plan p opcode (four_of operand_pairs))
-      (record {
-        pieces = made memory address immediates q (address ++ (immediates ++ (q ++ []))) operand_pairs
-            (ap (λ x. address ++ (immediates ++ x)) (append-nil q)) h s k.0;
-        opcode = opcode;
-        named = k.1;
-        accepted = k.2;
-        yields = refl;
-      }))
+  -- the operands of rm and reg
+  abbrev IsLeading : List ℕ → Operands → Type 0
+  IsLeading q x = (memory : Option Raw) × SpellsMemory at p m q memory × (x ≡ leading memory)
 
-  -- after the memory operand
-  ends_operands_part : (memory : Option Raw) (address : List ℕ) → SpellsMemory at p m address memory →
-      EndsWell (λ l r. Yields (address ++ l) r) (λ l. Between (address ++ l)) (after_memory memory)
-  ends_operands_part memory address h =
-      ends_then (SpellsOperands encodings p m memory) (λ q. EndsBetween (map immediate_width encodings) q) (λ l r. Yields (address ++ l) r)
-      (λ l. Between (address ++ l)) (operands_step encodings p m memory) (λ xs. after_operands (four_of xs)) (ends_operands p m memory encodings)
-      (λ q b. more_there (memory_widths at m (address ++ q)) (plan_widths plan) address q (memory_long at p m address q memory h)
-      (more_missing (map immediate_width encodings) (suffix_width v ∷ []) q b))
-      (λ q xs s. ends_after_operands memory address q xs h s)
+  abbrev IsOfRm : List ℕ → Operands → Type 0
+  IsOfRm q x = (memory : Option Raw) × SpellsMemory at p m q memory × (x ≡ put_in at (known_operand plan.rm p m memory) (sized plan.order.count plan.size))
+
+  ends_leading : EndsWell (Only IsLeading) (λ q. EndsBetween (memory_widths at m q) q) leading_step
+  ends_leading =
+      ends_map IsOfRm (λ q. EndsBetween (memory_widths at m q) q) IsLeading
+      (rm_read at plan.rm p m (sized plan.order.count plan.size)) (put_in plan.order.reg (known_operand plan.reg p m None))
+      (ends_map (SpellsMemory at p m) (λ q. EndsBetween (memory_widths at m q) q) IsOfRm (address_step at p m)
+      (λ memory. put_in at (known_operand plan.rm p m memory) (sized plan.order.count plan.size)) (ends_memory at p m) (λ q memory h. (memory, h, refl)))
+      (λ q x h. (h.0, h.1, ap (put_in plan.order.reg (known_operand plan.reg p m None)) h.2))
+
+  takes_leading : (q : List ℕ) (memory : Option Raw) → SpellsMemory at p m q memory → Takes leading_step q (Ok (leading memory))
+  takes_leading q memory h =
+      takes_map (rm_read at plan.rm p m (sized plan.order.count plan.size)) (put_in plan.order.reg (known_operand plan.reg p m None)) q _
+      (takes_map (address_step at p m) (λ memory. put_in at (known_operand plan.rm p m memory) (sized plan.order.count plan.size)) q memory
+      (takes_memory at p m q memory h))
+
+  module _ (memory : Option Raw) (address : List ℕ) (h : SpellsMemory at p m address memory) where
+    past_address : (q : List ℕ) → EndsBetween widths q → Between (address ++ q)
+    past_address q b = more_there (memory_widths at m (address ++ q)) widths address q (memory_long at p m address q memory h) b
+
+    -- after the operands
+    ends_ended : (last extra : List ℕ) (x : Operands) → x ≡ written memory last extra → length last ≡ last_width → length extra ≡ extra_width →
+        EndsWell (λ l r. Yields (address ++ (last ++ (extra ++ l))) r) (λ l. Between (address ++ (last ++ (extra ++ l)))) (ended plan p x)
+    ends_ended last extra x is l e =
+        ends_bind (IsNamed v plan.opcode) IsEmpty (λ q r. Yields (address ++ (last ++ (extra ++ q))) r)
+        (λ q. Between (address ++ (last ++ (extra ++ q)))) (read_opcode v plan.opcode)
+        (λ opcode. pure (reading_with opcode (changed plan.change p) x)) (ends_opcode v plan.opcode)
+        (λ q none. past_address (last ++ (extra ++ q)) (one_there last_width (extra_width ∷ suffix_width v ∷ []) last (extra ++ q) l
+        (one_there extra_width (suffix_width v ∷ []) extra q e (none_there (suffix_width v ∷ []) q none))))
+        (λ q error k. (k.1.0, k.1.1, refuses (made memory address last extra q (address ++ (last ++ (extra ++ q))) refl h l e k.0) k.1.2))
+        (λ q opcode k.
+        ends_pure (λ f r. Yields (address ++ (last ++ (extra ++ (q ++ f)))) r) (λ f. Between (address ++ (last ++ (extra ++ (q ++ f)))))
+        (reading_with opcode (changed plan.change p) x)
+        (record {
+          pieces = made memory address last extra q (address ++ (last ++ (extra ++ (q ++ []))))
+              (ap (λ f. address ++ (last ++ (extra ++ f))) (append-nil q)) h l e k.0;
+          opcode = opcode;
+          named = k.1;
+          accepted = k.2;
+          yields = ap (reading_with opcode (changed plan.change p)) (is ∙ in_two memory last extra l);
+        }))
+
+    -- after the memory operand
+    ends_after : (x : Operands) → x ≡ leading memory →
+        EndsWell (λ l r. Yields (address ++ l) r) (λ l. Between (address ++ l)) (after_leading x)
+    ends_after x is =
+        ends_then (IsPut p m plan.order.last plan.last x) IsEmpty (λ l r. Yields (address ++ l) r) (λ l. Between (address ++ l))
+        (last_step x) after_last (reads_other p m plan.order.last plan.last x).0
+        (λ q none. past_address q (none_there widths q none))
+        (λ last y g. ends_then (IsPut p m plan.order.extra plan.extra y) IsEmpty (λ l r. Yields (address ++ (last ++ l)) r)
+        (λ l. Between (address ++ (last ++ l))) (extra_step y) (ended plan p) (reads_other p m plan.order.extra plan.extra y).0
+        (λ q none. past_address (last ++ q) (one_there last_width (extra_width ∷ suffix_width v ∷ []) last q g.1
+        (none_there (extra_width ∷ suffix_width v ∷ []) q none)))
+        (λ extra z k. ends_ended last extra z
+        (k.0 ∙ ap (put_in plan.order.extra (operand_from plan.extra p m extra)) (g.0 ∙ ap (put_in plan.order.last (operand_from plan.last p m last)) is)) g.1 k.1))
 
   pub ends_plan : EndsWell Yields Between (read_plan plan p m)
   unfolding read_plan
   ends_plan =
-      ends_then (SpellsMemory at p m) (λ q. EndsBetween (memory_widths at m q) q) Yields Between (address_step at p m) after_memory (ends_memory at p m)
-      (λ q k. more_missing (memory_widths at m q) (plan_widths plan) q k) (λ q memory h. ends_operands_part memory q h)
+      ends_then IsLeading (λ q. EndsBetween (memory_widths at m q) q) Yields Between leading_step after_leading ends_leading
+      (λ q k. more_missing (memory_widths at m q) widths q k) (λ q x h. ends_after h.0 q h.1 x h.2)
 
   -- ---- the pieces are taken
 
   takes_pieces : (tail : List ℕ) (r : Result Reading DecodeError) (s : SpellsPieces plan p m tail) →
-      Takes (after_operands (four_of s.operand_pairs)) s.suffix r → Takes (read_plan plan p m) tail r
+      Takes (ended plan p (operands_from plan p m s.memory s.immediates)) s.suffix r → Takes (read_plan plan p m) tail r
   unfolding read_plan
   takes_pieces tail r s t =
-      subst (λ l. Takes (read_plan plan p m) l r) (sym s.spelled)
-      (takes_bind (address_step at p m) after_memory s.address (s.immediates ++ s.suffix) s.memory r
-      (takes_memory at p m s.address s.memory s.address_spelled)
-      (takes_bind (operands_step encodings p m s.memory) (λ xs. after_operands (four_of xs)) s.immediates s.suffix s.operand_pairs r
-      (takes_operands p m s.memory encodings s.immediates s.operand_pairs s.immediates_spelled) t))
+      let last : List ℕ = take last_width s.immediates in
+      let extra : List ℕ = drop last_width s.immediates in
+      let last_long : length last ≡ last_width = length-take last_width s.immediates ∙ omega (arith, s.immediates_length) in
+      let extra_long : length extra ≡ extra_width = length-drop last_width s.immediates ∙ omega (arith, s.immediates_length) in
+      subst (λ l. Takes (read_plan plan p m) l r)
+      (ap (λ l. s.address ++ l) (sym (append_assoc last extra s.suffix) ∙ ap (λ l. l ++ s.suffix) (take-append-drop last_width s.immediates)) ∙ sym s.spelled)
+      (takes_bind leading_step after_leading s.address (last ++ (extra ++ s.suffix)) (leading s.memory) r
+      (takes_leading s.address s.memory s.address_spelled)
+      (takes_bind (last_step (leading s.memory)) after_last last (extra ++ s.suffix) _ r
+      ((reads_other p m plan.order.last plan.last (leading s.memory)).1 last last_long)
+      (takes_bind (extra_step _) (ended plan p) extra s.suffix _ r ((reads_other p m plan.order.extra plan.extra _).1 extra extra_long) t)))
 
   pub takes_tail : (tail : List ℕ) (reading : Reading) → SpellsTail plan p m tail reading → Takes (read_plan plan p m) tail (Ok reading)
   takes_tail tail reading s =
-      let make : ℕ → Reading = λ opcode. reading_from plan p opcode (four_of s.pieces.operand_pairs) in
+      let make : ℕ → Reading = λ opcode. reading_from plan p m opcode s.pieces.memory s.pieces.immediates in
       subst (λ x. Takes (read_plan plan p m) tail (Ok x)) (sym s.yields)
       (takes_pieces tail (Ok (make s.opcode)) s.pieces (takes_map (read_opcode v plan.opcode) make s.pieces.suffix s.opcode
       (takes_opcode v plan.opcode s.opcode s.pieces.suffix s.pieces.suffix_length s.named s.accepted)))
@@ -243,7 +296,7 @@ module _ (plan : Plan) (p : Prefixes) (m : ℕ) where
       Takes (read_plan plan p m) tail (Err (error_of fault))
   takes_refusal fault tail s is =
       takes_pieces tail (Err (error_of fault)) s
-      (takes_err (read_opcode v plan.opcode) (λ opcode. pure (reading_from plan p opcode (four_of s.operand_pairs))) s.suffix (error_of fault)
+      (takes_err (read_opcode v plan.opcode) (λ opcode. pure (reading_from plan p m opcode s.memory s.immediates)) s.suffix (error_of fault)
       (takes_end v plan.opcode s.suffix fault s.suffix_length is))
 
   pub takes_tail_refused : (tail : List ℕ) (fault : Fault) → RefusesTail plan p m tail fault → Takes (read_plan plan p m) tail (Err (error_of fault))
@@ -252,41 +305,54 @@ module _ (plan : Plan) (p : Prefixes) (m : ℕ) where
 
   -- ---- bytes that end between the pieces
 
-  ends_named : (operand_pairs : Operands) → EndsWell (λ q r. Unit {0}) (λ q. Unit {0}) (after_operands operand_pairs)
-  ends_named operand_pairs = ends_bind (IsNamed v plan.opcode) IsEmpty (λ q r. Unit {0}) (λ q. Unit {0}) (read_opcode v plan.opcode)
-      (λ opcode. pure (reading_from plan p opcode operand_pairs)) (ends_opcode v plan.opcode) (λ q h. tt) (λ q e h. tt)
-      (λ q opcode h. ends_pure (λ q r. Unit {0}) (λ q. Unit {0}) (reading_from plan p opcode operand_pairs) tt)
+  module _ (x : Operands) where
+    abbrev make : ℕ → Reading
+    make opcode = reading_with opcode (changed plan.change p) x
 
-  settled : (operand_pairs : Operands) (q : List ℕ) → (r : Result ℕ DecodeError) × Takes (read_opcode v plan.opcode) q r × IsFinal r →
-      Halts (after_operands operand_pairs) q
-  settled operand_pairs q (Ok o, t, d) =
-      let reading : Reading = reading_from plan p o operand_pairs in
-      over q [] (Ok reading) (sym (append-nil q))
-      (takes_map (read_opcode v plan.opcode) (λ opcode. reading_from plan p opcode operand_pairs) q o t) (final_ok reading)
-  settled operand_pairs q (Err e, t, d) =
-      over q [] (Err e) (sym (append-nil q))
-      (takes_err (read_opcode v plan.opcode) (λ opcode. pure (reading_from plan p opcode operand_pairs)) q e t) (final_other e d)
+    ends_named : EndsWell (λ q r. Unit {0}) (λ q. Unit {0}) (ended plan p x)
+    ends_named = ends_bind (IsNamed v plan.opcode) IsEmpty (λ q r. Unit {0}) (λ q. Unit {0}) (read_opcode v plan.opcode)
+        (λ opcode. pure (make opcode)) (ends_opcode v plan.opcode) (λ q h. tt) (λ q e h. tt)
+        (λ q opcode h. ends_pure (λ q r. Unit {0}) (λ q. Unit {0}) (make opcode) tt)
 
-  halts_after_operands : (operand_pairs : Operands) (q : List ℕ) → EndsBetween (suffix_width v ∷ []) q → Halts (after_operands operand_pairs) q
-  halts_after_operands operand_pairs q k = by (first_piece (suffix_width v) [] q k)
-    where
-      by : FirstPiece (suffix_width v) [] q → Halts (after_operands operand_pairs) q
-      by (nothing none) = subst (Halts (after_operands operand_pairs)) (sym none) (halts_empty (after_operands operand_pairs) (ends_named operand_pairs))
-      by (piece l rest h long k) =
-          let whole : q ≡ l = h ∙ ap (λ x. l ++ x) (between_nil rest k) ∙ append-nil l in
-          settled operand_pairs q (answered v plan.opcode q (ap length whole ∙ long))
+    settled : (q : List ℕ) → (r : Result ℕ DecodeError) × Takes (read_opcode v plan.opcode) q r × IsFinal r → Halts (ended plan p x) q
+    settled q (Ok o, t, d) = over q [] (Ok (make o)) (sym (append-nil q)) (takes_map (read_opcode v plan.opcode) make q o t) (final_ok (make o))
+    settled q (Err e, t, d) =
+        over q [] (Err e) (sym (append-nil q)) (takes_err (read_opcode v plan.opcode) (λ opcode. pure (make opcode)) q e t) (final_other e d)
 
-  halts_after_memory : (memory : Option Raw) (q : List ℕ) → EndsBetween (plan_widths plan) q → Halts (after_memory memory) q
-  halts_after_memory memory q k = halts_operands p m memory encodings (λ xs. after_operands (four_of xs)) (suffix_width v ∷ []) q
-      (λ xs rest b. halts_after_operands (four_of xs) rest b) k
+    halts_ended : (q : List ℕ) → EndsBetween (suffix_width v ∷ []) q → Halts (ended plan p x) q
+    halts_ended q k = by (first_piece (suffix_width v) [] q k)
+      where
+        by : FirstPiece (suffix_width v) [] q → Halts (ended plan p x) q
+        by (nothing none) = subst (Halts (ended plan p x)) (sym none) (halts_empty (ended plan p x) ends_named)
+        by (piece l rest h long k) =
+            let whole : q ≡ l = h ∙ ap (λ x. l ++ x) (between_nil rest k) ∙ append-nil l in
+            settled q (answered v plan.opcode q (ap length whole ∙ long))
 
-  halts_memory : (test : Bool) (q : List ℕ) → EndsBetween ((if test then raw_widths m q else []) ++ plan_widths plan) q →
+  halts_after : (x : Operands) (q : List ℕ) → EndsBetween widths q → Halts (after_leading x) q
+  halts_after x q k =
+      let one = reads_other p m plan.order.last plan.last x in
+      halts_piece (last_step x) after_last last_width (extra_width ∷ suffix_width v ∷ []) q
+      (λ l. put_in plan.order.last (operand_from plan.last p m l) x) one.0 one.1
+      (λ y rest b. let two = reads_other p m plan.order.extra plan.extra y in
+      halts_piece (extra_step y) (ended plan p) extra_width (suffix_width v ∷ []) rest
+      (λ l. put_in plan.order.extra (operand_from plan.extra p m l) y) two.0 two.1 (λ z l c. halts_ended z l c) b) k
+
+  abbrev after_memory : Option Raw → Step Reading
+  after_memory memory = after_leading (leading memory)
+
+  halts_memory : (test : Bool) (q : List ℕ) → EndsBetween ((if test then raw_widths m q else []) ++ widths) q →
       Halts (memory_if p m test >>= after_memory) q
   halts_memory true q k = halts_same (read_raw p m >>= λ raw. after_memory (Some raw))
       ((read_raw p m >>= λ raw. pure (Some raw)) >>= after_memory) q (λ s. bind_assoc (read_raw p m) (λ raw. pure (Some raw)) after_memory s)
-      (halts_raw p m (λ raw. after_memory (Some raw)) (plan_widths plan) q (λ raw rest b. halts_after_memory (Some raw) rest b) k)
-  halts_memory false q k = halts_bind (pure None) after_memory [] q None (takes_pure (Ok None)) (halts_after_memory None q k)
+      (halts_raw p m (λ raw. after_memory (Some raw)) widths q (λ raw rest b. halts_after (leading (Some raw)) rest b) k)
+  halts_memory false q k = halts_bind (pure None) after_memory [] q None (takes_pure (Ok None)) (halts_after (leading None) q k)
 
   pub halts_plan : (q : List ℕ) → Between q → Halts (read_plan plan p m) q
   unfolding read_plan
-  halts_plan q k = halts_memory (has_address at m) q k
+  halts_plan q k =
+      let of_rm : Operands → Operands = put_in plan.order.reg (known_operand plan.reg p m None) in
+      halts_same (address_step at p m >>= after_memory) (leading_step >>= after_leading) q
+      (λ s. bind_assoc (rm_read at plan.rm p m (sized plan.order.count plan.size)) (λ x. pure (of_rm x)) after_leading s
+      ∙ bind_assoc (address_step at p m) (λ memory. pure (put_in at (known_operand plan.rm p m memory) (sized plan.order.count plan.size)))
+      (λ x. after_leading (of_rm x)) s)
+      (halts_memory (has_address at m) q k)

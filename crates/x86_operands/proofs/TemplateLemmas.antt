@@ -1,25 +1,15 @@
--- The orders and the parts of sound templates, and what they have.
-use Rattle.std.proofs.Common.{◌≡◌, ◌<◌, List, [], ◌∷◌, map, take, length, get_or, ℕ, ◌+◌, ◌==◌, Bool, true, false, not, ◌||◌, if◌then◌else◌}
-use Rattle.std.proofs.Common.{None, arith, refl, sym, ap, ◌∙◌}
-use Rattle.std.specs.List.{list_all, list_any}
+-- The orders and the parts of sound templates.
+use Rattle.std.proofs.Common.{◌≡◌, ◌<◌, List, length, get_or, ℕ, Bool, true, false, not, ◌||◌, arith}
+use Rattle.std.specs.List.{list_all}
 use Rattle.std.proofs.lemmas.Bool.{and_parts, eqb-true}
-use Rattle.std.proofs.lemmas.List.{take-map}
 use Rattle.std.proofs.lemmas.List.Elements.{All-get_or}
-use Rattle.std.proofs.lemmas.List.Folds.{list_all-map}
 use Rattle.std.proofs.lemmas.List.Sums.{AllPass-from_list_all}
-use Rattle.x86_operands.specs.Vocabulary.{OperandEncoding, Order, Position, First, Second, Third, Fourth, Nowhere, Prefixes, Template, Width, ModrmUse}
-use Rattle.x86_operands.specs.Vocabulary.{TableRow, is_memory}
+use Rattle.x86_operands.specs.Vocabulary.{OperandEncoding, Order, Position, First, Second, Third, Fourth, Nowhere, Prefixes, Template, Width, is_memory}
 use Rattle.x86_operands.specs.RowVocabulary.{Place, TemplateRow}
-use Rattle.x86_fields.specs.Pieces.{total}
-use Rattle.x86_operands.specs.Columns.{is_placed, plan_of_row}
+use Rattle.x86_operands.specs.Columns.{is_placed}
 use Rattle.x86_operands.specs.Encodings.{settled}
-use Rattle.x86_operands.specs.Plans.{plan_encodings}
-use Rattle.x86_operands.specs.PlanSteps.{immediate_read}
-use Rattle.x86_operands.specs.Templates.{encoding_at, encodings_in, letters_in, fits_form, has_address, fixed_encoding, index_of_position, is_field, is_last}
-use Rattle.x86_operands.specs.Templates.{is_order, is_order_of, is_simple, is_read_at, is_sound, is_register_place, is_sound_row, is_stack, reg_encoding}
-use Rattle.x86_operands.specs.Templates.{reg_part, rm_encoding, somewhere}
-use Rattle.x86_operands.specs.Asks.{immediate_width, immediates_width, part_width, plan_ask, uses_modrm, uses_suffix}
-use Rattle.x86_forms.specs.Words.{carried}
+use Rattle.x86_operands.specs.Templates.{fits_form, is_field, is_last, is_order, is_order_of, is_simple, is_read_at, is_sound, is_register_place}
+use Rattle.x86_operands.specs.Templates.{is_sound_row, is_stack, somewhere}
 
 -- ---- orders
 
@@ -108,97 +98,6 @@ read_parts t m h =
     let plain = and_parts (is_last t.last) (not (somewhere t.order.extra)) rest.0 in
     record { sound = sound_parts t parts.0; last = plain.0; extra = not_true (somewhere t.order.extra) plain.1; form = rest.1 }
 
--- ---- what a row has
-
--- an operand of reg or rm reads no byte
-pub part_known : (t : Template) (n : ℕ) → immediate_read (reg_part t n) ≡ None
-part_known t n = grind arith
-
-pub rm_known : (w : Width) → immediate_read (rm_encoding w) ≡ None
-rm_known w = grind arith
-
-no_width : (s : OperandEncoding) → immediate_read s ≡ None → immediate_width s ≡ 0
-no_width s h = rw h refl
-
 -- a last one has nothing of the opcode byte
 pub last_by : (c : OperandEncoding) (n k : ℕ) (p : Prefixes) → is_last c ≡ true → settled c n p ≡ settled c k p
 last_by c n k p h = grind arith
-
-width_in : {o : Order} → Named o → (a b c d : OperandEncoding) → immediate_width a ≡ 0 → immediate_width b ≡ 0 →
-    total (map immediate_width (encodings_in o a b c d)) ≡ part_width o.last c + part_width o.extra d
-width_in no_named a b c d ha hb = omega arith
-width_in h a b c d ha hb = omega (arith, ha, hb)
-
-pub row_width : (row : TemplateRow) (own : TableRow) (p : Prefixes) (m : ℕ) → is_sound row.template ≡ true →
-    immediates_width (plan_of_row row own p m) ≡ part_width row.template.order.last
-    (settled row.template.last (carried own.form) p) + part_width row.template.order.extra (settled row.template.extra (carried own.form) p)
-row_width row own p m h =
-    let t = row.template in
-    let n = carried own.form in
-    width_in (named t.order (sound_parts t h).order) (reg_part t n) (rm_encoding t.rm) (settled t.last n p) (settled t.extra n p)
-    (no_width (reg_part t n) (part_known t n)) (no_width (rm_encoding t.rm) (rm_known t.rm))
-
-pub row_has_ask : (row : TemplateRow) (usage : ModrmUse) (own : TableRow) (p : Prefixes) (m : ℕ) → is_sound_row row ≡ true →
-    plan_ask usage m (plan_of_row row own p m)
-    ≡ record {
-      modrm = uses_modrm usage;
-      memory = has_address row.template.order.rm m;
-      immediate = part_width row.template.order.last
-          (settled row.template.last (carried own.form) p) + part_width row.template.order.extra
-          (settled row.template.extra (carried own.form) p);
-      suffix = uses_suffix row.verdict;
-    }
-row_has_ask row usage own p m h =
-    ap (λ n. record { modrm = uses_modrm usage; memory = has_address row.template.order.rm m; immediate = n; suffix = uses_suffix row.verdict })
-    (row_width row own p m (sound_template row h))
-
--- ---- a test of operands that goes neither by prefixes nor by the number of the opcode byte
-
--- the operands of a row, with 0 for that number
-abbrev pub row_encodings : TemplateRow → List OperandEncoding
-row_encodings row = encodings_in row.template.order (reg_part row.template 0) (rm_encoding row.template.rm) row.template.last row.template.extra
-
-four_same : {a b c d u v w x : Bool} → a ≡ u → b ≡ v → c ≡ w → d ≡ x → (n : ℕ) → take n (a ∷ b ∷ c ∷ d ∷ []) ≡ take n (u ∷ v ∷ w ∷ x ∷ [])
-four_same ha hb hc hd n = cc (ha, hb, hc, hd)
-
-module _ (test : OperandEncoding → Bool) where
-  at_same : (x y z : Bool) (a b c d u v w : OperandEncoding) → test a ≡ test u → test c ≡ test v → test d ≡ test w →
-      test (if x then a else (if y then b else (if z then c else d))) ≡ test (if x then u else (if y then b else (if z then v else w)))
-  at_same true y z a b c d u v w reg last extra = reg
-  at_same false true z a b c d u v w reg last extra = refl
-  at_same false false true a b c d u v w reg last extra = last
-  at_same false false false a b c d u v w reg last extra = extra
-
-  same_in : (o : Order) (a b c d u v w : OperandEncoding) → test a ≡ test u → test c ≡ test v → test d ≡ test w →
-      map test (encodings_in o a b c d) ≡ map test (encodings_in o u b v w)
-  same_in o a b c d u v w reg last extra =
-      let at : (k : ℕ) → test (encoding_at o k a b c d) ≡ test (encoding_at o k u b v w) =
-      λ k. at_same (index_of_position o.reg == k) (index_of_position o.rm == k) (index_of_position o.last == k) a b c d u v w reg last extra in
-      sym (take-map test o.count (letters_in o a b c d)) ∙ four_same (at 0) (at 1) (at 2) (at 3) o.count
-      ∙ take-map test o.count (letters_in o u b v w)
-
-  any_by_map : (l : List OperandEncoding) → list_any test l ≡ list_any (λ b. b) (map test l)
-  any_by_map [] = refl
-  any_by_map (s ∷ rest) = ap (λ b. test s || b) (any_by_map rest)
-
-  module _ (free : (s : OperandEncoding) (n : ℕ) (p : Prefixes) → test (settled s n p) ≡ test s) (row : TemplateRow) (own : TableRow)
-      (p : Prefixes) (m : ℕ) where
-    reg_same : (rm of_opcode : Bool) (w : Width) (n : ℕ) → test (if rm then reg_encoding w else fixed_encoding of_opcode w n) ≡
-        test (if rm then reg_encoding w else fixed_encoding of_opcode w 0)
-    reg_same true of_opcode w n = refl
-    reg_same false true w n = free (fixed_encoding true w 0) n p
-    reg_same false false w n = refl
-
-    tests_same : map test (plan_encodings (plan_of_row row own p m)) ≡ map test (row_encodings row)
-    tests_same =
-        let t = row.template in
-        let n = carried own.form in
-        same_in t.order (reg_part t n) (rm_encoding t.rm) (settled t.last n p) (settled t.extra n p) (reg_part t 0) t.last t.extra
-        (reg_same (somewhere t.order.rm) t.of_opcode t.reg n) (free t.last n p) (free t.extra n p)
-
-    pub all_same : list_all test (plan_encodings (plan_of_row row own p m)) ≡ list_all test (row_encodings row)
-    all_same = sym (list_all-map (λ b. b) test (plan_encodings (plan_of_row row own p m))) ∙ ap (list_all (λ b. b)) tests_same
-        ∙ list_all-map (λ b. b) test (row_encodings row)
-
-    pub any_same : list_any test (plan_encodings (plan_of_row row own p m)) ≡ list_any test (row_encodings row)
-    any_same = any_by_map (plan_encodings (plan_of_row row own p m)) ∙ ap (list_any (λ b. b)) tests_same ∙ sym (any_by_map (row_encodings row))

@@ -1,11 +1,11 @@
 -- What a row has after its opcode byte, known from a ModRM byte alone.
-use Rattle.std.specs.Prelude.{ℕ, Bool, true, false, Option, List, [], ◌∷◌, map}
+use Rattle.std.specs.Prelude.{ℕ, ◌+◌, Bool, true, false, Option, List, [], ◌∷◌}
 use Rattle.std.specs.Int.{byte_len}
 use Rattle.std.specs.Option.{option_map_or}
 use Rattle.x86_operands.specs.Vocabulary.{Verdict, NamedBySuffix, ModrmUse, Absent, EitherForm, Registers, Ask}
 use Rattle.x86_operands.specs.Vocabulary.{RecordAt, OperandEncoding, Position, Nowhere, absent_modrm, as_register}
-use Rattle.x86_fields.specs.Pieces.{total, option_bytes}
-use Rattle.x86_operands.specs.Plans.{Plan, RowRecord, plan_encodings}
+use Rattle.x86_fields.specs.Pieces.{option_bytes}
+use Rattle.x86_operands.specs.Plans.{Plan, RowRecord}
 use Rattle.x86_operands.specs.PlanSteps.{immediate_read}
 use Rattle.x86_operands.specs.Templates.{has_address}
 
@@ -28,7 +28,7 @@ part_width at s = immediate_width s
 
 -- how many bytes the immediates have together; those of an absolute address count
 abbrev pub immediates_width : Plan → ℕ
-immediates_width plan = total (map immediate_width (plan_encodings plan))
+immediates_width plan = part_width plan.order.last plan.last + part_width plan.order.extra plan.extra
 
 abbrev pub first_or : ℕ → List ℕ → ℕ
 first_or n [] = n

@@ -1,10 +1,10 @@
 -- The walk after an opcode byte, as steps.
-use Rattle.std.specs.Prelude.{ℕ, Bool, true, false, if◌then◌else◌, Option, Some, None, List, [], ◌∷◌, length, slice_index_or, ◌==◌}
+use Rattle.std.specs.Prelude.{ℕ, Bool, true, false, if◌then◌else◌, Option, Some, None, List, [], ◌∷◌, slice_set, ◌==◌}
 use Rattle.std.specs.Int.{Width, w8, w16, w32, w64, cast_signed}
 use Rattle.std.specs.Option.{option_map_or}
 use Rattle.x86_operands.specs.Vocabulary.{RegSpec, RegisterClass, DecodeError, Prefixes, Raw, Slot, Operand, RegisterSlot, PointerSlot}
 use Rattle.x86_operands.specs.Vocabulary.{OperandEncoding, G, Gmm, E, Emm, I8, I16, I32, I64, I32From16, I64Whole, U8, U16, X8, X16}
-use Rattle.x86_operands.specs.Vocabulary.{ConstantI8, ConstantU8, Address32, Address64, Position, Fault}
+use Rattle.x86_operands.specs.Vocabulary.{ConstantI8, ConstantU8, Address32, Address64, Order, Position, Nowhere, Fault}
 use Rattle.x86_operands.specs.Vocabulary.{BadOpcode, BadOperand, Incomplete, Verdict, Accepts, NamedBySuffix, Refuses, PrefixChange, Keeps}
 use Rattle.x86_operands.specs.Vocabulary.{ClearsOperandSize, SetsEs, ModrmUse, Absent, EitherForm, Registers, Reading, Operands}
 use Rattle.x86_operands.specs.Vocabulary.{reg_spec, reg_field, rm_field, absent_modrm, as_register, register_of, class_of}
@@ -20,8 +20,8 @@ use Rattle.x86_operands.specs.declared.operands.Operand.TheVariants as operands
 use Rattle.x86_operands.specs.declared.plans.RegisterSlot.TheVariants as reg_slot
 use Rattle.x86_operands.specs.declared.plans.PointerSlot.TheVariants as pointer
 use Rattle.x86_operands.specs.Operands.{shape}
-use Rattle.x86_operands.specs.Plans.{Plan, RowRecord, plan_encodings, reg_number, rm_number}
-use Rattle.x86_operands.specs.Templates.{has_address}
+use Rattle.x86_operands.specs.Plans.{Plan, RowRecord, reg_number, rm_number}
+use Rattle.x86_operands.specs.Templates.{has_address, index_of_position, somewhere}
 use Rattle.std.specs.Map.{lookup}
 use Rattle.x86_opcodes.specs.Names.{PI2FW, PI2FD, PF2IW, PF2ID, PFNACC, PFPNACC, PFCMPGE, PFMIN, PFRCP, PFRSQRT, PFSUB, PFADD, PFCMPGT}
 use Rattle.x86_opcodes.specs.Names.{PFMAX, PFRCPIT1, PFRSQIT1, PFSUBR, PFACC, PFCMPEQ, PFMUL, PFRCPIT2, PMULHRW, PSWAPD, PAVGUSB}
@@ -115,23 +115,52 @@ number_or (Some (w, yields)) x = number_step w >>= λ n. pure (yields n)
 unfoldable pub operand_step : OperandEncoding → Prefixes → ℕ → Option Raw → Step (Slot × Operand)
 operand_step s p m memory = number_or (immediate_read s) (known_operand s p m memory)
 
--- the pairs in order
-unfoldable pub operands_step : List OperandEncoding → Prefixes → ℕ → Option Raw → Step (List (Slot × Operand))
-operands_step [] p m memory = pure []
-operands_step (s ∷ rest) p m memory = operand_step s p m memory >>= λ first. operands_step rest p m memory >>= λ others. pure (first ∷ others)
+-- ---- operands in place: each is written at its position
 
--- the pair at an index, and beyond the last one nothing
-abbrev pub pair_at : List (Slot × Operand) → ℕ → Slot × Operand
-pair_at xs n = slice_index_or xs n (slots.Nothing, operands.Nothing)
-
--- the pairs as operands, without a memory size
-abbrev pub four_of : List (Slot × Operand) → Operands
-four_of xs = record {
-  count = length xs;
-  slots = (pair_at xs 0).0 ∷ (pair_at xs 1).0 ∷ (pair_at xs 2).0 ∷ (pair_at xs 3).0 ∷ [];
-  operands = (pair_at xs 0).1 ∷ (pair_at xs 1).1 ∷ (pair_at xs 2).1 ∷ (pair_at xs 3).1 ∷ [];
-  mem_size = 0;
+-- no operand yet, of so many, with this memory size
+abbrev pub sized : ℕ → ℕ → Operands
+sized count size = record {
+  count = count;
+  slots = slots.Nothing ∷ slots.Nothing ∷ slots.Nothing ∷ slots.Nothing ∷ [];
+  operands = operands.Nothing ∷ operands.Nothing ∷ operands.Nothing ∷ operands.Nothing ∷ [];
+  mem_size = size;
 }
+
+abbrev pub no_operands : Operands
+no_operands = sized 0 0
+
+abbrev pub put_at : ℕ → Slot × Operand → Operands → Operands
+put_at k x operand_list = record operand_list { slots = slice_set operand_list.slots k x.0; operands = slice_set operand_list.operands k x.1 }
+
+-- at a position; Nowhere is none
+abbrev pub put_among : {X : Type 0} → Position → X → List X → List X
+put_among at x xs = if somewhere at then slice_set xs (index_of_position at) x else xs
+
+abbrev pub put_in : Position → Slot × Operand → Operands → Operands
+put_in at x operand_list =
+    record operand_list { slots = put_among at x.0 operand_list.slots; operands = put_among at x.1 operand_list.operands }
+
+-- what an operand encoding yields, at an index
+abbrev pub put_encoded : ℕ → OperandEncoding → Prefixes → ℕ → Option Raw → Operands → Step Operands
+put_encoded k s p m memory operand_list = operand_step s p m memory >>= λ x. pure (put_at k x operand_list)
+
+-- the memory operand's bytes, in the memory form, where an operand is of rm
+abbrev pub address_step : Position → Prefixes → ℕ → Step (Option Raw)
+address_step at p m = if has_address at m then (read_raw p m >>= λ raw. pure (Some raw)) else pure None
+
+-- the operand of rm: memory in the memory form, else the register
+abbrev pub rm_read : Position → OperandEncoding → Prefixes → ℕ → Operands → Step Operands
+rm_read at rm p m operand_list = address_step at p m >>= λ memory. pure (put_in at (known_operand rm p m memory) operand_list)
+
+-- the operand of rm, and that of reg, or a register that no ModRM names
+abbrev pub leading_read : Order → OperandEncoding → OperandEncoding → Prefixes → ℕ → Operands → Step Operands
+leading_read order reg rm p m operand_list =
+    rm_read order.rm rm p m operand_list >>= λ written. pure (put_in order.reg (known_operand reg p m None) written)
+
+-- another operand, which takes no memory
+abbrev pub other_read : Position → OperandEncoding → Prefixes → ℕ → Operands → Step Operands
+other_read Nowhere s p m operand_list = pure operand_list
+other_read at s p m operand_list = put_encoded (index_of_position at) s p m None operand_list
 
 -- ---- refusals
 
@@ -149,33 +178,33 @@ read_opcode (Refuses fault) opcode = refuse (error_of fault)
 
 -- ---- the whole record
 
--- the memory operand's bytes, in the memory form, where an operand is of rm
-abbrev pub address_step : Position → Prefixes → ℕ → Step (Option Raw)
-address_step at p m = if has_address at m then (read_raw p m >>= λ raw. pure (Some raw)) else pure None
-
 -- the prefixes with the record's change
 abbrev pub changed : PrefixChange → Prefixes → Prefixes
 changed Keeps p = p
 changed ClearsOperandSize p = without_operand_size p
 changed SetsEs p = with_es p
 
-abbrev pub reading_from : Plan → Prefixes → ℕ → Operands → Reading
-reading_from plan p opcode operand_pairs = record {
-  opcode = opcode;
-  count = operand_pairs.count;
-  slots = operand_pairs.slots;
-  operands = operand_pairs.operands;
-  mem_size = plan.size;
-  prefixes = changed plan.change p;
+abbrev pub reading_with : ℕ → Prefixes → Operands → Reading
+reading_with o p operand_list = record {
+  opcode = o;
+  count = operand_list.count;
+  slots = operand_list.slots;
+  operands = operand_list.operands;
+  mem_size = operand_list.mem_size;
+  prefixes = p;
 }
 
--- what a record has after its ModRM: its operands, and after them its refusal, if it refuses
+-- how the reading ends, after its operands
+abbrev pub ended : Plan → Prefixes → Operands → Step Reading
+ended plan p operand_list = read_opcode plan.verdict plan.opcode >>= λ opcode. pure (reading_with opcode (changed plan.change p) operand_list)
+
+-- What a record has after its ModRM: the operands of rm and reg, the last one, another, and its end, which may be a refusal.
 unfoldable pub read_plan : Plan → Prefixes → ℕ → Step Reading
 read_plan plan p m =
-    address_step plan.order.rm p m >>= λ memory.
-    operands_step (plan_encodings plan) p m memory >>= λ operand_pairs.
-    read_opcode plan.verdict plan.opcode >>= λ opcode.
-    pure (reading_from plan p opcode (four_of operand_pairs))
+    leading_read plan.order plan.reg plan.rm p m (sized plan.order.count plan.size) >>= λ leading.
+    other_read plan.order.last plan.last p m leading >>= λ written.
+    other_read plan.order.extra plan.extra p m written >>= λ operand_list.
+    ended plan p operand_list
 
 -- ModRM as the row uses it: a byte that isn't there reads as C0, and one whose mod isn't looked at as mod 11
 abbrev pub read_modrm : ModrmUse → Step ℕ

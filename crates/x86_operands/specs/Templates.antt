@@ -1,5 +1,5 @@
 -- What the operand template of a row means, and which templates are sound.
-use Rattle.std.specs.Prelude.{ℕ, Bool, true, false, ◌==◌, if◌then◌else◌, not, ◌&&◌, ◌||◌, List, [], ◌∷◌, take}
+use Rattle.std.specs.Prelude.{ℕ, Bool, true, false, ◌==◌, if◌then◌else◌, not, ◌&&◌, ◌||◌}
 use Rattle.x86_operands.specs.Vocabulary.{Width, OperandEncoding, Position, First, Second, Third, Fourth, Nowhere, Order, Size, Template}
 use Rattle.x86_operands.specs.Vocabulary.{is_memory}
 use Rattle.x86_operands.specs.RowVocabulary.{Place, Register, TemplateRow}
@@ -41,21 +41,6 @@ index_of_position Second = 1
 index_of_position Third = 2
 index_of_position Fourth = 3
 index_of_position Nowhere = 4
-
--- the operand at an index
-abbrev pub encoding_at : Order → ℕ → OperandEncoding → OperandEncoding → OperandEncoding → OperandEncoding → OperandEncoding
-encoding_at o k reg rm last extra =
-    if index_of_position o.reg == k then reg
-    else (if index_of_position o.rm == k then rm
-    else (if index_of_position o.last == k then last else extra))
-
--- the operands in their order: as many as there are, of four
-abbrev pub letters_in : Order → OperandEncoding → OperandEncoding → OperandEncoding → OperandEncoding → List OperandEncoding
-letters_in o reg rm last extra =
-    encoding_at o 0 reg rm last extra ∷ encoding_at o 1 reg rm last extra ∷ encoding_at o 2 reg rm last extra ∷ encoding_at o 3 reg rm last extra ∷ []
-
-abbrev pub encodings_in : Order → OperandEncoding → OperandEncoding → OperandEncoding → OperandEncoding → List OperandEncoding
-encodings_in o reg rm last extra = take o.count (letters_in o reg rm last extra)
 
 -- the memory size at a ModRM byte
 abbrev pub size_at : Template → ℕ → Size

@@ -1,10 +1,9 @@
 //! What a row has after its opcode byte, known from a ModRM byte alone.
-ghost use Rattle.std.specs.Prelude.{◌≡◌, ◌≤◌, true};
+ghost use Rattle.std.specs.Prelude.{◌≡◌, ◌≤◌};
 ghost use Rattle.x86_fields.specs.Pieces.{option_bytes};
 ghost use Rattle.x86_operands.specs.Asks.{immediate_width, modrm_of, part_width, plan_ask};
 ghost use Rattle.x86_operands.specs.Columns.{plan_of_row};
 ghost use Rattle.x86_operands.specs.Encodings.{settled};
-ghost use Rattle.x86_operands.specs.Templates.{is_sound_row};
 
 use crate::order::Position;
 use crate::plans::{Fault, ModrmUse, OperandEncoding, Verdict};
@@ -81,9 +80,7 @@ fn part_width(at: Position, encoding: OperandEncoding, num: u8, prefixes: &Prefi
 
 impl TemplateRow {
     /// Which parts the row has at a ModRM byte that is used so; `own` is the row in the opcode map.
-    #[tactic(auto, using(crate::proofs::TemplateLemmas::row_has_ask))]
     pub fn ask(&self, usage: ModrmUse, own: &TableRow, prefixes: &Prefixes, modrm: ModRM) -> Ask
-        requires { is_sound_row self.now ≡ true }
         ensures { result ≡ plan_ask usage modrm
             (plan_of_row self.now own.now prefixes.now modrm) }
     {

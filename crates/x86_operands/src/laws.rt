@@ -13,7 +13,7 @@ ghost use Rattle.x86_operands.specs.Vocabulary.{DecodeError, Fault, Incomplete, 
 ghost use Rattle.x86_operands.specs.Columns.{is_prefixed};
 ghost use Rattle.x86_operands.specs.Forms.{form_record};
 ghost use Rattle.x86_operands.specs.Operands.{operand_form, operand_address, shape};
-ghost use Rattle.x86_operands.specs.Pieces.{SpellsRow, RefusesRow, IsReadRow, IsRefusedRow, IsOpenRow, AreTied, names_modrm, encodings_of, HasShapeAt};
+ghost use Rattle.x86_operands.specs.Pieces.{SpellsRow, RefusesRow, IsReadRow, IsRefusedRow, IsOpenRow, AreTied, IsOrdered, names_modrm, plan_spelled, HasShapeAt};
 ghost use Rattle.x86_operands.specs.Plans.{RowRecord};
 ghost use Rattle.x86_operands.specs.PlanSteps.{record_step, error_of};
 ghost use Rattle.x86_operands.specs.declared.rows.When.TheVariants.{NoPrefix, Only66, F2, F3};
@@ -105,13 +105,15 @@ pub fn rows_refuse_by_faults()
 {}
 
 /// A reading has at most four operands. None of them is `Nothing`, masked, rounded or an unsigned immediate of 32 or
-/// 64 bits, the slot of an immediate has that immediate, and after the last operand there is `Nothing`.
+/// 64 bits, the slot of an immediate has that immediate, and after the last operand there is `Nothing`. This is of
+/// records whose operands are in order, as those of all rows are.
 #[tactic(auto, using(crate::proofs::TieLemmas::read_tied))]
 pub fn readings_are_tied()
     ensures read { (r : RowRecord) (p : Prefixes) (s : State ℕ) (reading : Reading) →
-        (record_step r p s).answer ≡ Ok reading → AreTied reading }
+        IsOrdered r → (record_step r p s).answer ≡ Ok reading → AreTied reading }
     ensures spelled { (r : RowRecord) (p : Prefixes) (bytes : List ℕ) (reading : Reading) →
-        SpellsRow r p bytes reading → AreTied reading }
+        IsOrdered r → SpellsRow r p bytes reading → AreTied reading }
+    ensures in_order { (row : TableRow) (p : Prefixes) → IsOrdered (form_record row p) }
 {}
 
 /// Where a record writes ModRM's memory operand, it is the shape of the raw fields. Their 67 is that of the prefixes.
@@ -119,9 +121,9 @@ pub fn readings_are_tied()
 pub fn memory_operands_are_shapes()
     ensures shapes { (r : RowRecord) (p : Prefixes)
         (bytes : List ℕ) (reading : Reading) (row_spelled : SpellsRow r p bytes reading)
-        (raw : Raw) →
+        (raw : Raw) → IsOrdered r →
         row_spelled.tail_spelled.pieces.memory ≡ Some raw → (k : ℕ) →
-        names_modrm (encodings_of r p bytes reading row_spelled) k ≡ true
+        names_modrm (plan_spelled r p bytes reading row_spelled) k ≡ true
         → HasShapeAt reading k raw }
     ensures address_size { (r : RowRecord) (p : Prefixes)
         (bytes : List ℕ) (reading : Reading) (row_spelled : SpellsRow r p bytes reading)

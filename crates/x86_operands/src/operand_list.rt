@@ -3,12 +3,12 @@
 ghost use Rattle.std.specs.Prelude.{◌≡◌, ◌<◌, ◌≢◌, ℕ, Option, None, true, OnOk};
 ghost use Rattle.x86_fields.specs.Steps.{outcome};
 ghost use Rattle.x86_operands.specs.Vocabulary.{Nowhere, Prefixes, Raw};
-ghost use Rattle.x86_operands.specs.PlanSteps.{known_operand, read_plan, register_slot};
-ghost use Rattle.x86_operands.specs.OperandList.{no_operands, reading_with, value_if_ok, put_in, put_at, put_encoded, leading_read, rm_read, other_read, sized_by, slot_in, operand_in};
+ghost use Rattle.x86_operands.specs.PlanSteps.{known_operand, leading_read, no_operands, other_read, put_at, put_encoded, put_in, read_plan, reading_with, register_slot, rm_read};
+ghost use Rattle.x86_operands.specs.OperandList.{operand_in, sized_by, slot_in, value_if_ok};
 ghost use Rattle.x86_operands.specs.Places.{place_after_address};
 ghost use Rattle.x86_operands.specs.Encodings.{settled};
 ghost use Rattle.x86_operands.specs.Plans.{template_plan};
-ghost use Rattle.x86_operands.specs.Templates.{fits_form, fixed_encoding, is_last, is_read_at, reg_encoding, rm_encoding};
+ghost use Rattle.x86_operands.specs.Templates.{fits_form, fixed_encoding, is_last, is_read_at, reg_encoding, reg_part, rm_encoding};
 
 use crate::order::Position;
 use crate::places::place_of;
@@ -195,8 +195,8 @@ impl Operands {
         requires position { at ≢ Nowhere }
         requires form { fits_form template.now fields.now.modrm ≡ true }
         ensures { outcome (value_if_ok result self.new) (T.state reader.new)
-            ≡ rm_read at template.now.rm fields.now.prefixes.now fields.now.modrm self.old
-            (T.state reader.old) }
+            ≡ rm_read at (rm_encoding template.now.rm) fields.now.prefixes.now fields.now.modrm
+            self.old (T.state reader.old) }
     {
         if !fields.in_memory {
             self.put_rm(at, template.rm, fields);
@@ -220,7 +220,8 @@ impl Operands {
         requires small { num < 8 }
         requires form { fits_form template.now fields.now.modrm ≡ true }
         ensures { outcome (value_if_ok result self.new) (T.state reader.new)
-            ≡ leading_read template.now num fields.now.prefixes.now fields.now.modrm self.old
+            ≡ leading_read template.now.order (reg_part template.now num)
+            (rm_encoding template.now.rm) fields.now.prefixes.now fields.now.modrm self.old
             (T.state reader.old) }
     {
         match template.order.rm {
@@ -269,7 +270,8 @@ impl Operands {
         requires small { num < 8 }
         requires form { fits_form template.now fields.now.modrm ≡ true }
         ensures read { outcome (value_if_ok result self.new) (T.state reader.new)
-            ≡ leading_read template.now num fields.now.prefixes.now fields.now.modrm
+            ≡ leading_read template.now.order (reg_part template.now num)
+            (rm_encoding template.now.rm) fields.now.prefixes.now fields.now.modrm
             (sized_by template.now opcode fields.now.prefixes.now fields.now.modrm)
             (T.state reader.old) }
         ensures address { OnOk result (address_end.new ≡ place_after_address

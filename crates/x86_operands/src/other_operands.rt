@@ -3,8 +3,8 @@
 ghost use Rattle.std.specs.Prelude.{◌≡◌, ◌<◌, Option, true, false};
 ghost use Rattle.x86_fields.specs.Steps.{outcome};
 ghost use Rattle.x86_operands.specs.Vocabulary.{Raw, reg_spec};
-ghost use Rattle.x86_operands.specs.PlanSteps.{pointer_class, pointer_slot};
-ghost use Rattle.x86_operands.specs.OperandList.{value_if_ok, put_at, put_encoded, other_read};
+ghost use Rattle.x86_operands.specs.PlanSteps.{other_read, pointer_class, pointer_slot, put_at, put_encoded};
+ghost use Rattle.x86_operands.specs.OperandList.{value_if_ok};
 ghost use Rattle.x86_operands.specs.Encodings.{settled};
 ghost use Rattle.x86_operands.specs.Templates.{is_field};
 

@@ -1,12 +1,12 @@
 //! What a row has after its ModRM byte.
-ghost use Rattle.x86_operands.specs.OperandList.{value_if_ok, no_operands, reading_with};
+ghost use Rattle.x86_operands.specs.OperandList.{value_if_ok};
 ghost use Rattle.std.specs.Prelude.{◌≡◌, ℕ, true, OnOk};
 ghost use Rattle.x86_arch.specs.Reader.{State};
 ghost use Rattle.x86_fields.specs.Steps.{outcome};
 ghost use Rattle.x86_forms.specs.Words.{IsForm};
 ghost use Rattle.x86_operands.specs.Columns.{is_placed, plan_of_row};
 ghost use Rattle.x86_operands.specs.Places.{plan_places};
-ghost use Rattle.x86_operands.specs.PlanSteps.{changed, error_of, suffix_opcode, read_opcode, read_plan, read_modrm, refuse_fault};
+ghost use Rattle.x86_operands.specs.PlanSteps.{changed, error_of, no_operands, read_modrm, read_opcode, read_plan, reading_with, refuse_fault, suffix_opcode};
 ghost use Rattle.x86_operands.specs.Asks.{uses_suffix};
 ghost use Rattle.x86_operands.specs.Templates.{is_sound_row};
 
@@ -133,7 +133,7 @@ impl TemplateRow {
 
     /// What the row has after its ModRM, written into blank operands, and the places of its parts; `own` is the row in
     /// the opcode map.
-    #[tactic(auto, using(crate::proofs::InPlaceLemmas::row_is_read, crate::proofs::TemplateLemmas::sound_template, crate::proofs::TemplateLemmas::sound_parts, crate::proofs::TemplateLemmas::fits_placed))]
+    #[tactic(auto, unfolding(crate::specs::PlanSteps::read_plan), using(crate::proofs::TemplateLemmas::sound_template, crate::proofs::TemplateLemmas::sound_parts, crate::proofs::TemplateLemmas::fits_placed))]
     pub fn read_into<T: Reader<u64, u8>>(
         &self,
         own: &TableRow,

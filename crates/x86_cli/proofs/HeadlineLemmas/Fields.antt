@@ -2,20 +2,18 @@
 use Rattle.std.proofs.Common.{◌≡◌, ◌≢◌, ◌↔◌, ℕ, zero, suc, ◌+◌, ◌<◌, ◌≤◌, Bool, true, false, List, [], ◌∷◌, ◌++◌, length, map, drop, Result}
 use Rattle.std.proofs.Common.{Ok, Err, Option, Some, None, is_none, refl, sym, ap, ◌∙◌, subst, arith, length-append}
 use Rattle.std.proofs.Math.Seq.{take-append_seam, drop-append_seam}
-use Rattle.std.specs.List.{list_any}
+use Rattle.std.proofs.lemmas.Bool.{and_parts}
 use Rattle.x86_fields.specs.declared.errors.DecodeError.{DecodeError}
 use Rattle.x86_fields.specs.declared.errors.DecodeError.TheVariants.{ExhaustedInput}
 use Rattle.x86_fields.specs.declared.raw.Raw.{Raw}
 use Rattle.x86_fields.specs.Parts.{PartLists}
 use Rattle.x86_forms.specs.Words.{rows_of, packed}
-use Rattle.x86_operands.specs.declared.plans.OperandEncoding.{OperandEncoding}
-use Rattle.x86_operands.specs.Plans.{plan_encodings}
 use Rattle.x86_decode.specs.declared.instructions.Instruction.{Instruction}
 use Rattle.x86_decode.specs.Head.{Rows, seen_by}
 use Rattle.x86_fields.specs.Run.{reading_of}
 use Rattle.x86_groups.specs.Groups.{record_of}
 use Rattle.x86_operands.specs.Asks.{modrm_of}
-use Rattle.x86_decode.specs.Addresses.{is_modrm_encoding, names_modrm, encodings_within}
+use Rattle.x86_decode.specs.Addresses.{names_modrm, plan_within, writes_modrm}
 use Rattle.x86_decode.specs.Answer.{answer_of, count_of}
 use Rattle.x86_decode.specs.Grammar as was
 use Rattle.x86_decode.specs.Grammar.{IsAnswer, IsRefusal}
@@ -138,23 +136,18 @@ module _ (strict : Bool) where
 
 -- ---- addresses
 
-named_somewhere : (es : List OperandEncoding) (k : ℕ) → names_modrm es k ≡ true → list_any is_modrm_encoding es ≡ true
-named_somewhere [] k h = absurd cc
-named_somewhere (e ∷ es) zero h = grind (arith, h)
-named_somewhere (e ∷ es) (suc k) h = grind (arith, named_somewhere es k h)
-
 pub head_same : {p q : List ℕ} {a b : ℕ} → p ≡ a ∷ [] → q ≡ b ∷ [] → p ≡ q → a ≡ b
 head_same {p} {q} {a} {b} e f g = cc
 
 module _ (strict : Bool) (s : List ℕ) (i : Instruction) (f : Encodes R strict true s i) where
-  -- the operand encodings at its row
-  pub named : (k : ℕ) (raw : Raw) → HasRaw R strict f k raw → names_modrm (encodings_within R strict s f.reading (whole_in R strict true s i f)) k ≡ true
-  named k raw has = subst (λ q. names_modrm (plan_encodings q) k ≡ true) (plan_is R strict true s i f) has.1
+  -- the plan at its row
+  pub named : (k : ℕ) (raw : Raw) → HasRaw R strict f k raw → names_modrm (plan_within R strict s f.reading (whole_in R strict true s i f)) k ≡ true
+  named k raw has = subst (λ q. names_modrm q k ≡ true) (plan_is R strict true s i f) has.1
 
   pub operand_form : (k : ℕ) (raw : Raw) → HasRaw R strict f k raw → is_ip_relative raw ≡ false →
       HasOperandForm strict s f.reading (whole_in R strict true s i f) false
   operand_form k raw has differs = record {
-    operand = record { raw = raw; read = has.0; written = named_somewhere _ k (named k raw has) };
+    operand = record { raw = raw; read = has.0; written = (and_parts (writes_modrm (plan_within R strict s f.reading (whole_in R strict true s i f))) _ (named k raw has)).0 };
     form = differs;
   }
 

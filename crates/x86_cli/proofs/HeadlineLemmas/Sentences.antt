@@ -9,15 +9,12 @@ use Rattle.x86_fields.specs.ModRM.{is_memory, rm_field}
 use Rattle.x86_fields.specs.Parts.{PartLists}
 use Rattle.x86_fields.specs.Pieces.{option_bytes}
 use Rattle.x86_fields.specs.Run.{reading_of}
-use Rattle.x86_operands.specs.declared.operands.Slot.{Slot}
-use Rattle.x86_operands.specs.declared.operands.Operand.{Operand}
 use Rattle.x86_operands.specs.declared.places.Places.{Places}
 use Rattle.x86_operands.specs.declared.plans.Fault.{Fault}
 use Rattle.x86_operands.specs.declared.reader.Reading.{Reading}
-use Rattle.x86_operands.specs.Asks.{modrm_of}
-use Rattle.x86_operands.specs.Pieces.{SpellsMemory, SpellsOperands, RefusesRow, modrm_width, suffix_width, opcode_by}
-use Rattle.x86_operands.specs.Plans.{RowRecord, is_refusal, plan_encodings}
-use Rattle.x86_operands.specs.PlanSteps.{four_of, reading_from}
+use Rattle.x86_operands.specs.Asks.{immediates_width, modrm_of}
+use Rattle.x86_operands.specs.Pieces.{SpellsMemory, RefusesRow, modrm_width, suffix_width, opcode_by, reading_from}
+use Rattle.x86_operands.specs.Plans.{RowRecord, is_refusal}
 use Rattle.x86_operands.specs.Templates.{has_address}
 use Rattle.x86_operands.specs.declared.order.Position.{Position}
 use Rattle.x86_groups.specs.Groups.{record_of}
@@ -107,8 +104,7 @@ module _ (rows : Rows) (strict : Bool) where
           address_spelled = subst (λ a. SpellsMemory (r.plan m).order.rm p m a t.pieces.memory) (sym halves) t.pieces.address_spelled;
           sib_length = sib_long (r.plan m).order.rm p m t.pieces.address t.pieces.memory
               (address_is strict w.row p w.row_spelled.modrm t.accepted) t.pieces.address_spelled;
-          operands = t.pieces.operand_pairs;
-          immediates_spelled = t.pieces.immediates_spelled;
+          immediate_length = t.pieces.immediates_length;
           suffix_length = t.pieces.suffix_length;
           operation = t.opcode;
           named = t.named;
@@ -159,21 +155,19 @@ module _ (rows : Rows) (strict : Bool) where
                 address = address;
                 immediates = f.parts.immediate;
                 suffix = f.parts.suffix;
-                operand_pairs = f.operands;
                 spelled = refl;
                 address_spelled = subst (λ q. SpellsMemory q.order.rm p m address f.memory) plan_is
                     (subst (λ p. SpellsMemory f.plan.order.rm p m address f.memory) f.sees
                     (subst (λ m. SpellsMemory f.plan.order.rm f.seen m address f.memory) modrm_is f.address_spelled));
-                immediates_spelled = subst (λ q. SpellsOperands (plan_encodings q) p m f.memory f.parts.immediate f.operands) plan_is
-                    (subst (λ p. SpellsOperands (plan_encodings f.plan) p m f.memory f.parts.immediate f.operands) f.sees
-                    (subst (λ m. SpellsOperands (plan_encodings f.plan) f.seen m f.memory f.parts.immediate f.operands) modrm_is f.immediates_spelled));
+                immediates_length = subst (λ q. length f.parts.immediate ≡ immediates_width q) plan_is f.immediate_length;
                 suffix_length = subst (λ q. length f.parts.suffix ≡ suffix_width q.verdict) plan_is f.suffix_length;
               };
               opcode = f.operation;
               named = subst (λ q. opcode_by q.verdict q.opcode f.parts.suffix ≡ Some f.operation) plan_is f.named;
               accepted = subst (λ q. is_refusal q.verdict ≡ false) plan_is f.accepted;
-              yields = subst (λ p. f.reading ≡ reading_from (r.plan m) p f.operation (four_of f.operands)) f.sees
-                  (subst (λ q. f.reading ≡ reading_from q f.seen f.operation (four_of f.operands)) plan_is f.reads);
+              yields = subst (λ q. f.reading ≡ reading_from q p m f.operation f.memory f.parts.immediate) plan_is
+                  (subst (λ p. f.reading ≡ reading_from f.plan p m f.operation f.memory f.parts.immediate) f.sees
+                  (subst (λ m. f.reading ≡ reading_from f.plan f.seen m f.operation f.memory f.parts.immediate) modrm_is f.reads));
             };
           };
         }

@@ -251,6 +251,9 @@ immediate_small strict row p m =
 displacement_small : (m : ℕ) (sib : Option ℕ) (n : ℕ) → n ≡ (if is_memory m then displacement_width m sib else 0) → n ≤ 4
 displacement_small m sib n h = grind arith
 
+sib_small : (m n : ℕ) → n ≡ sib_width m → n ≤ 1
+sib_small m n h = grind arith
+
 pub lengths_of : {strict : Bool} {s : List ℕ} {reading : Reading} {w : Encoding strict s reading} {p : PartLists} →
     HasParts strict s reading w p → length s ≤ 15 → HasFieldLengths p
 lengths_of {strict = strict} {w = w} {p = p} h short =
@@ -262,7 +265,7 @@ lengths_of {strict = strict} {w = w} {p = p} h short =
       escape = grind (arith, ap length h.escape);
       opcode = ap length h.opcode;
       modrm = grind (arith, ap length h.modrm, a.modrm_length);
-      sib = grind (arith, h.sib);
+      sib = sib_small m _ h.sib;
       displacement = displacement_small m (first_byte p.sib) _ (displacement_long a (there_in w) p.sib p.displacement h.address h.sib);
       immediate = rw (ap length h.immediate ∙ immediates_long a) (immediate_small strict w.row _ m);
       suffix = grind (arith, ap length h.suffix, a.tail_spelled.pieces.suffix_length);

@@ -1,5 +1,5 @@
 -- Where the parts of an encoding are.
-use Rattle.std.proofs.Common.{◌≡◌, ℕ, ◌≤◌, ◌==◌, ◌&&◌, Bool, true, if◌then◌else◌, List, [], ◌∷◌, ◌++◌, length, take, drop, map, slice_index}
+use Rattle.std.proofs.Common.{◌≡◌, ℕ, ◌≤◌, ◌==◌, ◌&&◌, Bool, true, if◌then◌else◌, List, [], ◌∷◌, ◌++◌, length, take, drop, slice_index}
 use Rattle.std.proofs.Common.{Option, Some, None, refl, ap, arith, length-append}
 use Rattle.std.specs.List.{list_all, prefix_len, take_while}
 use Rattle.std.proofs.lemmas.List.Sums.{take_while-cons}
@@ -8,18 +8,14 @@ use Rattle.std.proofs.lemmas.Bool.{and_parts}
 use Rattle.std.proofs.lemmas.Bool.Decides.{nat_tests}
 use Rattle.x86_fields.specs.Run.{is_prefix}
 use Rattle.x86_fields.specs.ModRM.{rm_field, is_memory}
-use Rattle.x86_fields.specs.Pieces.{option_bytes, total}
+use Rattle.x86_fields.specs.Pieces.{option_bytes}
 use Rattle.x86_fields.specs.declared.prefixes.Prefixes.{Prefixes}
-use Rattle.x86_fields.specs.declared.raw.Raw.{Raw}
 use Rattle.x86_forms.specs.declared.Map.{Map}
-use Rattle.x86_operands.specs.declared.operands.Slot.{Slot}
-use Rattle.x86_operands.specs.declared.operands.Operand.{Operand}
-use Rattle.x86_operands.specs.declared.plans.OperandEncoding.{OperandEncoding}
 use Rattle.x86_operands.specs.declared.plans.Verdict.{Verdict}
 use Rattle.x86_operands.specs.declared.plans.ModrmUse.{ModrmUse}
 use Rattle.x86_operands.specs.Plans.{RowRecord}
-use Rattle.x86_operands.specs.Asks.{immediate_width, modrm_of, immediates_width, uses_modrm, uses_suffix, used_modrm, ask_of}
-use Rattle.x86_operands.specs.Pieces.{modrm_width, suffix_width, SpellsOperands, SpellsRow}
+use Rattle.x86_operands.specs.Asks.{modrm_of, immediates_width, uses_modrm, uses_suffix, used_modrm, ask_of}
+use Rattle.x86_operands.specs.Pieces.{modrm_width, suffix_width, SpellsRow}
 use Rattle.x86_decode.specs.Head.{is_run, escape_bytes, is_opcode}
 use Rattle.x86_operands.specs.declared.asks.Ask.{Ask}
 use Rattle.x86_operands.specs.declared.reader.Reading.{Reading}
@@ -80,13 +76,6 @@ use_width u = grind arith
 pub verdict_width : (v : Verdict) → one_if (uses_suffix v) ≡ suffix_width v
 verdict_width v = grind arith
 
-pub operands_long : (encodings : List OperandEncoding) (p : Prefixes) (m : ℕ) (memory : Option Raw) (bytes : List ℕ)
-    (operand_pairs : List (Slot × Operand)) → SpellsOperands encodings p m memory bytes operand_pairs → length bytes ≡ total (map immediate_width encodings)
-operands_long [] p m memory bytes operand_pairs h = ap length h.0
-operands_long (s ∷ rest) p m memory bytes operand_pairs h =
-    let following = operands_long rest p m memory h.tail h.others h.tail_spelled in
-    omega (arith, length-append {A = ℕ}, ap length h.spelled, h.immediate_length, following)
-
 -- ---- SIB
 
 pub as_it_is : (u : ModrmUse) (m : ℕ) → is_memory (used_modrm u m) ≡ true → used_modrm u m ≡ m
@@ -102,7 +91,7 @@ module _ {r : RowRecord} {p : Prefixes} {tail : List ℕ} {reading : Reading} (a
   m = modrm_of r.modrm a.modrm
 
   pub immediates_long : length a.tail_spelled.pieces.immediates ≡ immediates_width (r.plan m)
-  immediates_long = operands_long _ p m _ _ _ a.tail_spelled.pieces.immediates_spelled
+  immediates_long = a.tail_spelled.pieces.immediates_length
 
   -- further bytes come after the pieces of a row
   module _ {all : List ℕ} (more : List ℕ) (e : all ≡ a.modrm ++ more) where

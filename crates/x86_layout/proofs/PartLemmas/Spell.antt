@@ -1,23 +1,20 @@
 -- Fields that meet the conditions on their row spell what the row has, and the other way round.
-use Rattle.std.proofs.Common.{◌↔◌, ◌≡◌, ℕ, ◌==◌, ◌&&◌, ◌||◌, not, Bool, true, false, if◌then◌else◌, List, [], ◌∷◌, ◌++◌, length, take, drop}
-use Rattle.std.proofs.Common.{map, Option, Some, None, is_some, is_none, refl, sym, ap, subst, ◌∙◌, arith, length-take, length-drop}
-use Rattle.std.proofs.lemmas.List.{take-append-drop, nil_from_length}
+use Rattle.std.proofs.Common.{◌↔◌, ◌≡◌, ℕ, ◌==◌, ◌&&◌, ◌||◌, not, Bool, true, false, if◌then◌else◌, List, [], ◌∷◌, ◌++◌, length}
+use Rattle.std.proofs.Common.{Option, Some, None, is_some, is_none, refl, sym, ap, subst, ◌∙◌, arith}
+use Rattle.std.proofs.lemmas.List.{nil_from_length}
 use Rattle.std.proofs.lemmas.Bool.Decides.{nat_tests}
 use Rattle.x86_fields.specs.declared.prefixes.Prefixes.{Prefixes}
 use Rattle.x86_fields.specs.declared.raw.Raw.{Raw}
 use Rattle.x86_fields.specs.ModRM.{rm_field, is_memory}
 use Rattle.x86_fields.specs.Raw.{displacement_width, has_b, has_x}
-use Rattle.x86_fields.specs.Pieces.{option_bytes, signed_by, total}
-use Rattle.x86_operands.specs.declared.operands.Slot.{Slot}
-use Rattle.x86_operands.specs.declared.operands.Operand.{Operand}
-use Rattle.x86_operands.specs.declared.plans.OperandEncoding.{OperandEncoding}
+use Rattle.x86_fields.specs.Pieces.{option_bytes, signed_by}
 use Rattle.x86_operands.specs.declared.plans.Verdict.{Verdict}
 use Rattle.x86_operands.specs.declared.plans.Verdict.TheVariants.{Accepts, NamedBySuffix, Refuses}
 use Rattle.x86_operands.specs.declared.reader.Reading.{Reading}
-use Rattle.x86_operands.specs.Plans.{RowRecord, is_refusal, plan_encodings}
-use Rattle.x86_operands.specs.Asks.{immediate_width, modrm_of, uses_modrm, uses_suffix, immediates_width, record_at}
-use Rattle.x86_operands.specs.Pieces.{operand_from, opcode_by, SpellsOperands, SpellsMemory, SpellsRow}
-use Rattle.x86_operands.specs.PlanSteps.{four_of, reading_from, suffix_opcode}
+use Rattle.x86_operands.specs.Plans.{RowRecord, is_refusal}
+use Rattle.x86_operands.specs.Asks.{modrm_of, uses_modrm, uses_suffix, immediates_width, record_at}
+use Rattle.x86_operands.specs.Pieces.{opcode_by, reading_from, SpellsMemory, SpellsRow}
+use Rattle.x86_operands.specs.PlanSteps.{suffix_opcode}
 use Rattle.x86_layout.specs.declared.parts.fields.Fields as fields
 use Rattle.x86_layout.specs.Parts.Heads.{one_if}
 use Rattle.x86_layout.specs.Parts.Split.{sib_width}
@@ -53,25 +50,6 @@ some_is : {A : Type 0} (o : Option A) → is_none o ≡ false → (x : A) × (o 
 some_is o h = grind arith
 
 -- ---- the pieces that a row has
-
-spell_operands : (encodings : List OperandEncoding) (p : Prefixes) (m : ℕ) (memory : Option Raw) (bytes : List ℕ) →
-    length bytes ≡ total (map immediate_width encodings) → (operand_pairs : List (Slot × Operand)) × SpellsOperands encodings p m memory bytes operand_pairs
-spell_operands [] p m memory bytes e = ([], (nil_from_length bytes e, refl))
-spell_operands (s ∷ rest) p m memory bytes e =
-    let w : ℕ = immediate_width s in
-    let back : length (drop w bytes) ≡ total (map immediate_width rest) = let d = length-drop w bytes in omega (arith, d, e) in
-    let others = spell_operands rest p m memory (drop w bytes) back in (
-      operand_from s p m memory (take w bytes) ∷ others.0,
-      record {
-        immediate = take w bytes;
-        tail = drop w bytes;
-        others = others.0;
-        spelled = sym (take-append-drop w bytes);
-        immediate_length = let t = length-take w bytes in omega (arith, t, e);
-        yields = refl;
-        tail_spelled = others.1;
-      },
-    )
 
 none_left : (sib : Option ℕ) (disp : List ℕ) → one_if (is_some sib) ≡ 0 → length disp ≡ 0 → option_bytes sib ++ disp ≡ []
 none_left sib disp e h = let none = nil_from_length disp h in grind arith
@@ -125,10 +103,9 @@ module _ (r : RowRecord) (p : Prefixes) (f : fields.Fields) where
       let sib_n : one_if (is_some f.sib) ≡ sib_width m = counts.1 ∙ ap (λ t. one_if (t && rm_field m == 4)) there in
       let suffix_n : one_if (is_some f.suffix) ≡ one_if (uses_suffix v) = counts.4 in
       let memory = spell_memory (r.plan m).order.rm p m f.sib f.displacement.items there sib_n counts.2 in
-      let operand_pairs = spell_operands (plan_encodings (r.plan m)) p m memory.0 f.immediate.items counts.3 in
       let named = named_by v (r.plan m).opcode f.suffix accepted passed.2 suffix_n in
       record {
-        reading = reading_from (r.plan m) p named.0 (four_of operand_pairs.0);
+        reading = reading_from (r.plan m) p m named.0 memory.0 f.immediate.items;
         row = record {
           modrm = option_bytes f.modrm;
           tail = (option_bytes f.sib ++ f.displacement.items) ++ (f.immediate.items ++ option_bytes f.suffix);
@@ -141,10 +118,9 @@ module _ (r : RowRecord) (p : Prefixes) (f : fields.Fields) where
               address = option_bytes f.sib ++ f.displacement.items;
               immediates = f.immediate.items;
               suffix = option_bytes f.suffix;
-              operand_pairs = operand_pairs.0;
               spelled = refl;
               address_spelled = memory.1;
-              immediates_spelled = operand_pairs.1;
+              immediates_length = counts.3;
               suffix_length = option_count f.suffix ∙ suffix_n ∙ verdict_width v;
             };
             opcode = named.0;

@@ -1,7 +1,6 @@
 -- In the memory form a plan goes by reg, and not by mod, rm, and the bits X and B. It refuses, or writes the memory as an
 -- operand.
-use Rattle.std.proofs.Common.{◌≡◌, ℕ, ◌||◌, Bool, true, false, Option, Some, None, refl, ◌∙◌, arith}
-use Rattle.std.specs.List.{list_all, list_any}
+use Rattle.std.proofs.Common.{◌≡◌, ℕ, Bool, true, false, Option, Some, None, refl, arith}
 use Rattle.std.proofs.lemmas.Bool.{and_parts}
 use Rattle.x86_fields.specs.declared.prefixes.Prefixes.{Prefixes}
 use Rattle.x86_fields.specs.declared.rex.PrefixRex.{PrefixRex}
@@ -12,18 +11,14 @@ use Rattle.x86_operands.specs.declared.plans.ModrmUse.TheVariants.{EitherForm}
 use Rattle.x86_forms.specs.declared.Form.TheVariants as form
 use Rattle.x86_forms.specs.declared.TableRow.{TableRow}
 use Rattle.x86_forms.specs.Groups.{is_group}
-use Rattle.x86_operands.specs.Plans.{Plan, is_refusal, plan_encodings}
+use Rattle.x86_operands.specs.Plans.{is_refusal}
 use Rattle.x86_operands.specs.Forms.{form_plan, form_record}
-use Rattle.x86_decode.specs.Addresses.{is_modrm_encoding}
+use Rattle.x86_operands.specs.Pieces.{writes_modrm}
 use Rattle.x86_layout.specs.Tightening.Tighten.{bits_in}
-use Rattle.x86_operands.specs.declared.plans.OperandEncoding.{OperandEncoding}
-use Rattle.x86_operands.specs.declared.rows.TemplateRow.{TemplateRow}
-use Rattle.x86_operands.specs.Columns.{choose, plan_of_row}
-use Rattle.x86_operands.specs.Encodings.{settled}
+use Rattle.x86_operands.specs.Columns.{choose}
 use Rattle.x86_operands.specs.Rows.{form_rows}
 use Rattle.x86_operands.proofs.PlainLemmas as form_facts
-use Rattle.x86_operands.proofs.ColumnLemmas.{SamePrefixes, no_rm_names, in_memory, rm_free_encoding, first_in_memory, rows_alike}
-use Rattle.x86_operands.proofs.TemplateLemmas.{all_same, any_same, row_encodings}
+use Rattle.x86_operands.proofs.ColumnLemmas.{SamePrefixes, chosen_in_memory, first_in_memory, has_memory_alone, plan_in_memory, rows_alike}
 use Rattle.x86_groups.specs.Groups.{is_f3_alone, group_fault, group_plan, group_record, record_of}
 use Rattle.x86_groups.specs.Rows.{group_rows}
 use Rattle.x86_groups.proofs.AddressLemmas.{By}
@@ -85,49 +80,19 @@ module _ (strict : Bool) (row : TableRow) (p : Prefixes) (x b : Bool) (m n : ℕ
 
 -- ---- what a plan writes
 
--- a plan refuses, or writes ModRM's memory operand
-abbrev pub writes : Plan → Bool
-writes plan = is_refusal plan.verdict || list_any is_modrm_encoding (plan_encodings plan)
-
-settled_is : (s : OperandEncoding) (n : ℕ) (p : Prefixes) → is_modrm_encoding (settled s n p) ≡ is_modrm_encoding s
-settled_is s n p = grind arith
-
-settled_free : (s : OperandEncoding) (n : ℕ) (p : Prefixes) → rm_free_encoding (settled s n p) ≡ rm_free_encoding s
-settled_free s n p = grind arith
-
-module _ (own : TableRow) (p : Prefixes) (m : ℕ) where
-  chosen_writes : (chosen : TemplateRow) → in_memory chosen ≡ true → writes (plan_of_row chosen own p m) ≡ true
-  chosen_writes chosen h =
-      let x = and_parts (no_rm_names chosen.names) _ h in
-      let y = and_parts (list_all rm_free_encoding (row_encodings chosen)) _ x.1 in
-      rw (any_same is_modrm_encoding settled_is chosen own p m) y.1
-
-  chosen_free : (chosen : TemplateRow) → in_memory chosen ≡ true → list_all rm_free_encoding (plan_encodings (plan_of_row chosen own p m)) ≡ true
-  chosen_free chosen h =
-      let x = and_parts (no_rm_names chosen.names) _ h in
-      let y = and_parts (list_all rm_free_encoding (row_encodings chosen)) _ x.1 in
-      all_same rm_free_encoding settled_free chosen own p m ∙ y.0
-
 module _ (strict : Bool) (row : TableRow) (p : Prefixes) (m : ℕ) (mm : is_memory m ≡ true) where
-  by_kind : (group : Bool) → (By strict row group p).modrm ≡ EitherForm → writes ((By strict row group p).plan m) ≡ true
+  by_kind : (group : Bool) → (By strict row group p).modrm ≡ EitherForm → plan_in_memory ((By strict row group p).plan m) ≡ true
   unfolding group_record group_plan form_record form_plan
-  by_kind true usage = chosen_writes row p m (choose (group_rows row.form) row strict p m)
+  by_kind true usage = chosen_in_memory (choose (group_rows row.form) row strict p m) row p m
       (first_in_memory (group_rows row.form) row strict p m (group_facts.rows_keep_reg row.form) mm)
-  by_kind false usage = chosen_writes row p m (choose (form_rows row.form) row false p m)
+  by_kind false usage = chosen_in_memory (choose (form_rows row.form) row false p m) row p m
       (first_in_memory (form_rows row.form) row false p m (form_facts.rows_keep_reg row.form usage) mm)
 
-  free_by_kind : (group : Bool) → (By strict row group p).modrm ≡ EitherForm →
-      list_all rm_free_encoding (plan_encodings ((By strict row group p).plan m)) ≡ true
-  unfolding group_record group_plan form_record form_plan
-  free_by_kind true usage = chosen_free row p m (choose (group_rows row.form) row strict p m)
-      (first_in_memory (group_rows row.form) row strict p m (group_facts.rows_keep_reg row.form) mm)
-  free_by_kind false usage = chosen_free row p m (choose (form_rows row.form) row false p m)
-      (first_in_memory (form_rows row.form) row false p m (form_facts.rows_keep_reg row.form usage) mm)
-
-  -- the operands go neither by rm nor by X or B
-  pub row_is_free : (record_of strict row p).modrm ≡ EitherForm → list_all rm_free_encoding (plan_encodings ((record_of strict row p).plan m)) ≡ true
-  row_is_free usage = free_by_kind (is_group row.form) usage
+  -- it writes ModRM's memory operand, and no other operand goes by rm, X or B
+  pub row_has_memory : (record_of strict row p).modrm ≡ EitherForm → is_refusal ((record_of strict row p).plan m).verdict ≡ false →
+      has_memory_alone ((record_of strict row p).plan m) ≡ true
+  row_has_memory usage accepted = cc (by_kind (is_group row.form) usage, accepted)
 
   pub row_writes : (record_of strict row p).modrm ≡ EitherForm → is_refusal ((record_of strict row p).plan m).verdict ≡ false →
-      list_any is_modrm_encoding (plan_encodings ((record_of strict row p).plan m)) ≡ true
-  row_writes usage accepted = cc (by_kind (is_group row.form) usage, accepted)
+      writes_modrm ((record_of strict row p).plan m) ≡ true
+  row_writes usage accepted = (and_parts (writes_modrm ((record_of strict row p).plan m)) _ (row_has_memory usage accepted)).0

@@ -1,5 +1,5 @@
 -- The pieces of a row with other raw fields.
-use Rattle.std.proofs.Common.{◌≡◌, ℕ, Bool, true, ◌&&◌, Some, None, List, [], ◌∷◌, ◌++◌, refl, sym, ap, ◌∙◌, arith}
+use Rattle.std.proofs.Common.{◌≡◌, ℕ, Bool, true, ◌&&◌, Option, Some, None, List, [], ◌∷◌, ◌++◌, refl, sym, ap, ◌∙◌, arith}
 use Rattle.x86_fields.specs.declared.prefixes.Prefixes.{Prefixes}
 use Rattle.x86_fields.specs.declared.raw.Raw.{Raw}
 use Rattle.x86_fields.specs.Pieces.{SpellsRaw}
@@ -11,11 +11,15 @@ use Rattle.x86_operands.specs.declared.plans.ModrmUse.TheVariants.{EitherForm}
 use Rattle.x86_operands.specs.declared.reader.Reading.{Reading}
 use Rattle.x86_operands.specs.Operands.{is_memory_slot, shape}
 use Rattle.x86_fields.specs.ModRM.{is_memory}
-use Rattle.x86_operands.specs.Plans.{Plan, RowRecord, plan_encodings}
-use Rattle.x86_operands.specs.PlanSteps.{pair_at, four_of, changed, reading_from}
-use Rattle.x86_operands.specs.Pieces.{operand_from, SpellsOperands, SpellsTail, SpellsRow, modrm_width}
+use Rattle.x86_operands.specs.Plans.{Plan, RowRecord}
+use Rattle.x86_operands.specs.PlanSteps.{Immediate, changed, immediate_read, known_operand}
+use Rattle.x86_operands.specs.Pieces.{operand_from, operands_from, reading_from, SpellsTail, SpellsRow, modrm_width}
 use Rattle.x86_operands.specs.Templates.{somewhere}
-use Rattle.x86_decode.specs.Grammar.{allows_lock}
+use Rattle.x86_operands.specs.declared.operand_list.Operands.{Operands}
+use Rattle.x86_decode.specs.Grammar.{allows_lock, first_slot}
+use Rattle.x86_layout.proofs.TightenLemmas.Operands.{Alike, alike, operands_alike}
+use Rattle.std.specs.Int.{from_le_bytes}
+use Rattle.std.specs.Option.{option_map_or}
 
 -- ---- the operands
 
@@ -24,34 +28,31 @@ unfolding shape
 is_shape raw = grind arith
 
 module _ (p q : Prefixes) (m n : ℕ) (raw other : Raw) where
-  same_kind : (s : OperandEncoding) (bytes : List ℕ) →
-      is_memory_slot (operand_from s q n (Some other) bytes).0 ≡ is_memory_slot (operand_from s p m (Some raw) bytes).0
-  same_kind s bytes = grind (arith, is_shape other, is_shape raw)
+  -- both are memory, or neither is
+  abbrev IsSameKind : Slot × Operand → Slot × Operand → Type 0
+  IsSameKind x y = is_memory_slot y.0 ≡ is_memory_slot x.0
 
-  -- the pairs of operands, where their immediates are the same
-  pub record Regiven (encodings : List OperandEncoding) (bytes : List ℕ) (operand_pairs : List (Slot × Operand)) : Type 0 where
-    pub pairs : List (Slot × Operand)
-    pub spelled : SpellsOperands encodings q n (Some other) bytes pairs
-    pub first : is_memory_slot (pair_at pairs 0).0 ≡ is_memory_slot (pair_at operand_pairs 0).0
+  known_kind : (s : OperandEncoding) → IsSameKind (known_operand s p m None) (known_operand s q n None)
+  known_kind s = grind arith
 
-  regiven : (encodings : List OperandEncoding) (bytes : List ℕ) (operand_pairs : List (Slot × Operand)) →
-      SpellsOperands encodings p m (Some raw) bytes operand_pairs → Regiven encodings bytes operand_pairs
-  regiven [] bytes operand_pairs h = record { pairs = []; spelled = (h.0, refl); first = ap (λ l. is_memory_slot (pair_at l 0).0) (sym h.1) }
-  regiven (s ∷ rest) bytes operand_pairs h =
-      let following = regiven rest h.tail h.others h.tail_spelled in
-      record {
-        pairs = operand_from s q n (Some other) h.immediate ∷ following.pairs;
-        spelled = record {
-          immediate = h.immediate;
-          tail = h.tail;
-          others = following.pairs;
-          spelled = h.spelled;
-          immediate_length = h.immediate_length;
-          yields = refl;
-          tail_spelled = following.spelled;
-        };
-        first = same_kind s h.immediate ∙ ap (λ l. is_memory_slot (pair_at l 0).0) (sym h.yields);
-      }
+  rm_kind : (s : OperandEncoding) → IsSameKind (known_operand s p m (Some raw)) (known_operand s q n (Some other))
+  rm_kind s = grind (arith, is_shape other, is_shape raw)
+
+  operand_kind : (s : OperandEncoding) (bytes : List ℕ) → IsSameKind (operand_from s p m bytes) (operand_from s q n bytes)
+  operand_kind s bytes = by (immediate_read s)
+    where
+      by : (i : Option Immediate) → IsSameKind (option_map_or (λ j. j.1 (from_le_bytes j.0 bytes)) i (known_operand s p m None))
+          (option_map_or (λ j. j.1 (from_le_bytes j.0 bytes)) i (known_operand s q n None))
+      by None = known_kind s
+      by (Some j) = refl
+
+  same_kinds : (plan : Plan) (bytes : List ℕ) →
+      Alike IsSameKind refl (operands_from plan p m (Some raw) bytes) (operands_from plan q n (Some other) bytes)
+  same_kinds plan bytes = operands_alike IsSameKind refl plan p q m n (Some raw) (Some other) bytes
+      (record { rm = rm_kind plan.rm; reg = known_kind plan.reg; last = operand_kind plan.last; extra = operand_kind plan.extra })
+
+  first_kind : {l k : Operands} → Alike IsSameKind refl l k → is_memory_slot (first_slot k.slots) ≡ is_memory_slot (first_slot l.slots)
+  first_kind (alike c z a b d e a' b' d' e' ra rb rd re hl hk) = rw (hl, hk) ra
 
   -- ---- after the opcode
 
@@ -77,10 +78,9 @@ module _ (p q : Prefixes) (m n : ℕ) (raw other : Raw) where
   rerowed r plan tail address reading h same read memory spells passed usage planned =
       let s = h.pieces in
       let there = still_there (somewhere plan.order.rm) (is_memory m) (is_memory n) (rw read at s.address_spelled).0 memory in
-      let encodings = rw read at s.immediates_spelled in
-      let new = regiven (plan_encodings plan) s.immediates s.operand_pairs encodings in
-      let again : Reading = reading_from plan q h.opcode (four_of new.pairs) in
-      let lock : allows_lock again ≡ allows_lock (reading_from plan p h.opcode (four_of s.operand_pairs)) = cc (lock_of_change plan.change same, new.first) in
+      let again : Reading = reading_from plan q n h.opcode (Some other) s.immediates in
+      let lock : allows_lock again ≡ allows_lock (reading_from plan p m h.opcode (Some raw) s.immediates) =
+      cc (lock_of_change plan.change same, first_kind (same_kinds plan s.immediates)) in
       record {
         again = again;
         row = record {
@@ -95,10 +95,9 @@ module _ (p q : Prefixes) (m n : ℕ) (raw other : Raw) where
               address = address;
               immediates = s.immediates;
               suffix = s.suffix;
-              operand_pairs = new.pairs;
               spelled = refl;
               address_spelled = rw (usage, planned) (there, spells);
-              immediates_spelled = rw (usage, planned) new.spelled;
+              immediates_length = rw (usage, planned) s.immediates_length;
               suffix_length = rw (usage, planned) s.suffix_length;
             };
             opcode = h.opcode;
@@ -111,5 +110,5 @@ module _ (p q : Prefixes) (m n : ℕ) (raw other : Raw) where
         memory = refl;
         immediate = refl;
         last = refl;
-        lock = lock ∙ ap allows_lock (sym h.yields);
+        lock = lock ∙ ap (λ o. allows_lock (reading_from plan p m h.opcode o s.immediates)) (sym read) ∙ ap allows_lock (sym h.yields);
       }

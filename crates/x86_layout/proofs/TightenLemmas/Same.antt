@@ -1,7 +1,6 @@
 -- A relative is the same instruction but for its memory operand of ModRM, which has the same address.
 use Rattle.std.proofs.Common.{◌≡◌, ◌↔◌, ℕ, zero, suc, ◌≤◌, ◌<◌, ◌^◌, nat_lt, Bool, true, false, if◌then◌else◌, Option, Some, None, List, []}
 use Rattle.std.proofs.Common.{◌∷◌, length, map, slice_index_or, refl, sym, ap, ◌∙◌, arith, All, FitsSigned, w32, pow_mono, min}
-use Rattle.std.specs.List.{list_all}
 use Rattle.std.proofs.lemmas.Bool.{and_parts}
 use Rattle.x86_regs.specs.declared.RegisterClass.{RegisterClass}
 use Rattle.x86_fields.specs.declared.prefixes.Prefixes.{Prefixes}
@@ -21,10 +20,15 @@ use Rattle.x86_operands.specs.declared.plans.OperandEncoding.{OperandEncoding}
 use Rattle.x86_operands.specs.declared.plans.PrefixChange.{PrefixChange}
 use Rattle.x86_operands.specs.declared.reader.Reading.{Reading}
 use Rattle.x86_operands.specs.Operands.{shape, operand_address}
-use Rattle.x86_operands.specs.Plans.{Plan, plan_encodings, reg_number}
-use Rattle.x86_operands.proofs.ColumnLemmas.{rm_free_encoding}
-use Rattle.x86_operands.specs.PlanSteps.{pair_at, four_of, changed, pointer_class, reading_from}
-use Rattle.x86_operands.specs.Pieces.{operand_from, SpellsOperands, SpellsTail}
+use Rattle.x86_operands.specs.Plans.{Plan, reg_number}
+use Rattle.x86_operands.proofs.ColumnLemmas.{has_memory_alone, rm_free_encoding}
+use Rattle.x86_operands.specs.PlanSteps.{Immediate, changed, immediate_read, known_operand, pointer_class}
+use Rattle.x86_operands.specs.Pieces.{is_modrm_encoding, operand_from, operands_from, reading_from, writes_modrm, SpellsTail}
+use Rattle.x86_operands.specs.Templates.{somewhere}
+use Rattle.x86_operands.specs.declared.operand_list.Operands.{Operands}
+use Rattle.x86_operands.specs.declared.plans.OperandEncoding.TheVariants.{E, Emm}
+use Rattle.std.specs.Int.{from_le_bytes}
+use Rattle.std.specs.Option.{option_map_or}
 use Rattle.x86_operands.specs.Asks.{first_or}
 use Rattle.x86_decode.specs.declared.instructions.Instruction.{Instruction}
 use Rattle.x86_operands.specs.declared.places.Places.{Places}
@@ -37,7 +41,8 @@ use Rattle.x86_layout.specs.Tightening.Shortest.{IsOfBytes}
 use Rattle.x86_layout.specs.Tightening.Tighten.{IsRelative}
 use Rattle.x86_layout.specs.Tightening.Same.{cleared, placed_at, address_at, IsSameOrShape, unchanged, shapes, IsSameButInMemory}
 use Rattle.x86_layout.proofs.TightenLemmas.Rex.{seen_with, column_stays}
-use Rattle.x86_layout.proofs.TightenLemmas.PlanAlike.{row_is_free, same_record}
+use Rattle.x86_layout.proofs.TightenLemmas.PlanAlike.{row_has_memory, same_record}
+use Rattle.x86_layout.proofs.TightenLemmas.Operands.{Alike, PartsAlike, each_alike, operands_alike}
 use Rattle.x86_layout.proofs.TightenLemmas.Relative.{Reads, Row, Seen, Byte, spells, fields, byte, raw_of_bytes}
 use Rattle.x86_layout.proofs.PartLemmas.Part.{halves}
 
@@ -56,18 +61,6 @@ module _ (p q : Prefixes) (alike : cleared q ≡ cleared p) where
 -- ---- the operands
 
 module _ (from to : Raw) where
-  -- There are as many pairs, and at each place they are the same or the shapes of the raw fields.
-  record AlikePairs (operand_pairs others : List (Slot × Operand)) : Type 0 where
-    count : length others ≡ length operand_pairs
-    each : (k : ℕ) → IsSameOrShape from to (pair_at operand_pairs k) (pair_at others k)
-
-  one_more : {x y : Slot × Operand} {xs ys : List (Slot × Operand)} → IsSameOrShape from to x y → AlikePairs xs ys → AlikePairs (x ∷ xs) (y ∷ ys)
-  one_more {x = x} {y = y} {xs = xs} {ys = ys} first following = record { count = ap suc following.count; each = each }
-    where
-      each : (k : ℕ) → IsSameOrShape from to (pair_at (x ∷ xs) k) (pair_at (y ∷ ys) k)
-      each zero = first
-      each (suc k) = following.each k
-
   module _ (p q : Prefixes) (m n : ℕ) (alike : cleared q ≡ cleared p) (register : reg_field n ≡ reg_field m) where
     same_number : reg_number n q ≡ reg_number m p
     same_number = cc (same_r p q alike, register)
@@ -78,60 +71,64 @@ module _ (from to : Raw) where
     same_pointer : pointer_class q ≡ pointer_class p
     same_pointer = let e = ap pointer_class alike in grind arith
 
-    sign_alike : (s : OperandEncoding) (bytes : List ℕ) → rm_free_encoding s ≡ true →
-        IsSameOrShape from to (operand_from s p m (Some from) bytes) (operand_from s q n (Some to) bytes)
-    sign_alike s bytes free = grind (arith, unchanged, shapes, same_register p q alike, same_number, same_width, same_pointer)
+    known_alike : (s : OperandEncoding) → rm_free_encoding s ≡ true → IsSameOrShape from to (known_operand s p m None) (known_operand s q n None)
+    known_alike s free = grind (arith, unchanged, same_register p q alike, same_number, same_width, same_pointer)
 
-    pairs_alike : (ss : List OperandEncoding) (bytes : List ℕ) (operand_pairs others : List (Slot × Operand)) →
-        list_all rm_free_encoding ss ≡ true → SpellsOperands ss p m (Some from) bytes operand_pairs →
-        SpellsOperands ss q n (Some to) bytes others → AlikePairs operand_pairs others
-    pairs_alike [] bytes operand_pairs others free h g = rw (h.1, g.1) (record { count = refl; each = λ k. unchanged refl })
-    pairs_alike (s ∷ rest) bytes operand_pairs others free h g =
-        let parts = and_parts (rm_free_encoding s) (list_all rm_free_encoding rest) free in
-        let same = halves h.immediate h.tail g.immediate g.tail (sym h.spelled ∙ g.spelled) (h.immediate_length ∙ sym g.immediate_length) in
-        let first : IsSameOrShape from to (operand_from s p m (Some from) h.immediate) (operand_from s q n (Some to) g.immediate) =
-        rw (same.0) (sign_alike s g.immediate parts.0) in
-        let following = pairs_alike rest g.tail h.others g.others parts.1 (rw (same.1) at h.tail_spelled) g.tail_spelled in
-        rw (h.yields, g.yields) (one_more first following)
+    operand_alike : (s : OperandEncoding) (bytes : List ℕ) → rm_free_encoding s ≡ true →
+        IsSameOrShape from to (operand_from s p m bytes) (operand_from s q n bytes)
+    operand_alike s bytes free = by (immediate_read s)
+      where
+        by : (i : Option Immediate) → IsSameOrShape from to (option_map_or (λ j. j.1 (from_le_bytes j.0 bytes)) i (known_operand s p m None))
+            (option_map_or (λ j. j.1 (from_le_bytes j.0 bytes)) i (known_operand s q n None))
+        by None = known_alike s free
+        by (Some j) = unchanged refl
+
+    rm_alike : (s : OperandEncoding) → is_modrm_encoding s ≡ true → IsSameOrShape from to (known_operand s p m (Some from)) (known_operand s q n (Some to))
+    rm_alike (E w) h = shapes refl refl
+    rm_alike Emm h = shapes refl refl
+    rm_alike s h = absurd cc
+
+    parts_alike : (plan : Plan) → has_memory_alone plan ≡ true → PartsAlike (IsSameOrShape from to) (unchanged refl) plan p q m n (Some from) (Some to)
+    parts_alike plan h =
+        let parts = and_parts (writes_modrm plan) _ h in
+        let rest = and_parts (rm_free_encoding plan.last) _ parts.1 in
+        let others = and_parts (rm_free_encoding plan.extra) (rm_free_encoding plan.reg) rest.1 in
+        record {
+          rm = rm_alike plan.rm (and_parts (somewhere plan.order.rm) (is_modrm_encoding plan.rm) parts.0).1;
+          reg = known_alike plan.reg others.1;
+          last = λ bytes. operand_alike plan.last bytes rest.0;
+          extra = λ bytes. operand_alike plan.extra bytes others.0;
+        }
 
   -- ---- the instruction
 
-  -- the slot and the operand at a place, where it is known whether that is below the count
-  abbrev At : Bool → List (Slot × Operand) → ℕ → Slot × Operand
-  At below xs k = (
-    if below then slice_index_or (four_of xs).slots k slots.Nothing else slots.Nothing,
-    if below
-        then slice_index_or (four_of xs).operands k operands.Nothing else operands.Nothing,
-  )
+  -- what is at a place, where it is known whether that is below the count
+  at_place : (below : Bool) {l m : Operands} → Alike (IsSameOrShape from to) (unchanged refl) l m → (k : ℕ) → IsSameOrShape from to
+      (if below then slice_index_or l.slots k slots.Nothing else slots.Nothing, if below then slice_index_or l.operands k operands.Nothing else operands.Nothing)
+      (if below then slice_index_or m.slots k slots.Nothing else slots.Nothing, if below then slice_index_or m.operands k operands.Nothing else operands.Nothing)
+  at_place true h k = each_alike (IsSameOrShape from to) (unchanged refl) h k
+  at_place false h k = unchanged refl
 
-  at_place : (below : Bool) (xs ys : List (Slot × Operand)) (k : ℕ) → AlikePairs xs ys → IsSameOrShape from to (At below xs k) (At below ys k)
-  at_place below xs ys k h = grind (arith, unchanged, h.each 0, h.each 1, h.each 2, h.each 3)
-
-  module _ (address : IsSameAddress (raw_form to) (raw_form from)) (p q : Prefixes) (alike : cleared q ≡ cleared p) where
-    built : (plan : Plan) (opcode : ℕ) (x y : Places) (k l : ℕ) (xs ys : List (Slot × Operand)) → AlikePairs xs ys →
-        IsSameButInMemory from to (instruction_of (reading_from plan p opcode (four_of xs)) x k) (instruction_of (reading_from plan q opcode (four_of ys)) y l)
-    built plan opcode x y k l xs ys h = record {
-      opcode = refl;
-      prefixes = same_mark p q alike plan.change;
-      count = ap (λ c. min c 4) h.count;
-      mem_size = refl;
-      operands = λ n. rw (h.count) (at_place (nat_lt n (length xs)) xs ys n h);
-      address = address;
-    }
-
-    module _ (m n : ℕ) (register : reg_field n ≡ reg_field m) where
-      tails : {plan other : Plan} {tail end : List ℕ} {a b : Reading} (h : SpellsTail plan p m tail a) (g : SpellsTail other q n end b)
-          (i j : Places) (k l : ℕ) → other ≡ plan → list_all rm_free_encoding (plan_encodings plan) ≡ true →
-          h.pieces.memory ≡ Some from → g.pieces.memory ≡ Some to → g.pieces.immediates ≡ h.pieces.immediates →
-          g.pieces.suffix ≡ h.pieces.suffix → IsSameButInMemory from to (instruction_of a i k) (instruction_of b j l)
-      tails {plan = plan} {b = b} h g i j k l planned free old new immediates suffix =
-          let x = h.pieces in
-          let y = g.pieces in
-          let spelled = rw old at x.immediates_spelled in
-          let third = rw (planned, new, immediates) at y.immediates_spelled in
-          let pairs = pairs_alike p q m n alike register (plan_encodings plan) x.immediates x.operand_pairs y.operand_pairs free spelled third in
-          let yields : b ≡ reading_from plan q h.opcode (four_of y.operand_pairs) = cc (g.yields, planned, g.named, suffix, h.named) in
-          rw (h.yields, yields) (built plan h.opcode i j k l x.operand_pairs y.operand_pairs pairs)
+  module _ (address : IsSameAddress (raw_form to) (raw_form from)) (p q : Prefixes) (alike : cleared q ≡ cleared p)
+      (m n : ℕ) (register : reg_field n ≡ reg_field m) where
+    tails : {plan other : Plan} {tail end : List ℕ} {a b : Reading} (h : SpellsTail plan p m tail a) (g : SpellsTail other q n end b)
+        (i j : Places) (k l : ℕ) → other ≡ plan → has_memory_alone plan ≡ true →
+        h.pieces.memory ≡ Some from → g.pieces.memory ≡ Some to → g.pieces.immediates ≡ h.pieces.immediates →
+        g.pieces.suffix ≡ h.pieces.suffix → IsSameButInMemory from to (instruction_of a i k) (instruction_of b j l)
+    tails {plan = plan} {a = a} {b = b} h g i j k l planned alone old new immediates suffix =
+        let bytes = h.pieces.immediates in
+        let first : a ≡ reading_from plan p m h.opcode (Some from) bytes = h.yields ∙ ap (λ o. reading_from plan p m h.opcode o bytes) old in
+        let second : b ≡ reading_from plan q n h.opcode (Some to) bytes = cc (g.yields, planned, g.named, suffix, h.named, new, immediates) in
+        let all = operands_alike (IsSameOrShape from to) (unchanged refl) plan p q m n (Some from) (Some to) bytes
+        (parts_alike p q m n alike register plan alone) in
+        rw (first, second) (record {
+          opcode = refl;
+          prefixes = same_mark p q alike plan.change;
+          count = refl;
+          mem_size = refl;
+          operands = λ x. at_place (nat_lt x plan.order.count) all x;
+          address = address;
+        })
 
 -- ---- the encodings
 
@@ -160,7 +157,7 @@ module _ {strict : Bool} {s : List ℕ} {a : Reading} {v : Encoding strict s a} 
   same_instruction : (i j : Places) (k l : ℕ) → IsSameButInMemory rel.address.from rel.address.to (instruction_of a i k) (instruction_of b j l)
   same_instruction i j k l = tails rel.address.from rel.address.to rel.address.same (Seen v) (Seen w) seen_is (Byte v)
       (Byte w) register_is v.row_spelled.tail_spelled w.row_spelled.tail_spelled i j k l plan_is
-      (row_is_free strict v.row (Seen v) (Byte v) (spells v rel.address.old).0 (fields v rel.address.old)) rel.address.old rel.address.new
+      (row_has_memory strict v.row (Seen v) (Byte v) (spells v rel.address.old).0 (fields v rel.address.old) v.row_spelled.tail_spelled.accepted) rel.address.old rel.address.new
       rel.parts.immediate rel.parts.suffix
 
 -- said of sentences

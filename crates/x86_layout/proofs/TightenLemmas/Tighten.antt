@@ -1,11 +1,10 @@
 -- What is known of raw fields from the parts of an encoding, and how long a shortest relative is.
-use Rattle.std.specs.List.{list_any}
 use Rattle.x86_operands.specs.Operands.{is_memory_slot, shape}
-use Rattle.x86_operands.specs.Pieces.{is_modrm_encoding, names_modrm, SpellsMemory}
-use Rattle.x86_operands.proofs.TieLemmas.{at_most_four}
-use Rattle.x86_operands.specs.declared.plans.OperandEncoding.{OperandEncoding}
+use Rattle.x86_operands.specs.Pieces.{is_modrm_encoding, names_modrm, writes_modrm, SpellsMemory}
+use Rattle.x86_operands.specs.Plans.{Plan}
+use Rattle.x86_operands.specs.declared.order.Position.{Position}
 use Rattle.x86_forms.specs.Words.{rows_of, packed}
-use Rattle.x86_decode.specs.Addresses.{encodings_within, plan_within}
+use Rattle.x86_decode.specs.Addresses.{plan_within}
 use Rattle.x86_decode.specs.Grammar.{IsSentence}
 use Rattle.x86_decode.specs.Instruction.{slot_at}
 use Rattle.x86_layout.proofs.TightenLemmas.Respell.{is_shape}
@@ -27,8 +26,8 @@ use Rattle.x86_layout.specs.Tightening.Shortest.{shortest, IsOfBytes, address_le
 use Rattle.x86_layout.specs.Tightening.Tighten.{has_memory_form, HasMemoryOperand, HasOperandForm, raw_of, respelled, respelled_length}
 use Rattle.x86_layout.proofs.PartLemmas.Part.{halves, read_as}
 use Rattle.x86_layout.proofs.PartLemmas.OfBytes.{option_count, first_of, IsFirstSentence, has_head, parts_are, as_first, there_in}
-use Rattle.x86_operands.specs.Templates.{has_address}
-use Rattle.x86_operands.specs.declared.order.Position.TheVariants.{First}
+use Rattle.x86_operands.specs.Templates.{has_address, index_of_position, somewhere}
+use Rattle.x86_operands.specs.declared.order.Position.TheVariants.{First, Nowhere}
 use Rattle.x86_operands.specs.declared.plans.ModrmUse.{ModrmUse}
 use Rattle.x86_operands.specs.declared.plans.ModrmUse.TheVariants.{Absent, EitherForm, Registers}
 use Rattle.x86_operands.specs.Asks.{modrm_of}
@@ -119,20 +118,18 @@ module _ {strict : Bool} {s : List ℕ} {a : Reading} (v : Encoding strict s a) 
 
 -- ---- an instruction without a memory operand
 
--- one of the operands is the memory operand of ModRM
-named_at : (encodings : List OperandEncoding) → list_any is_modrm_encoding encodings ≡ true → (k : ℕ)
-    × ((k < length encodings) × (names_modrm encodings k ≡ true))
-named_at [] h = absurd (cc h)
-named_at (s ∷ rest) h = by (is_modrm_encoding s) refl (λ k. named_at rest k)
+-- the operand of rm is the memory operand of ModRM
+named_at : (plan : Plan) → writes_modrm plan ≡ true → (index_of_position plan.order.rm < 4) × (names_modrm plan (index_of_position plan.order.rm) ≡ true)
+named_at plan h = by plan.order.rm (is_modrm_encoding plan.rm) h
   where
-    by : (t : Bool) → is_modrm_encoding s ≡ t → (list_any is_modrm_encoding rest ≡ true → (k : ℕ)
-        × ((k < length rest) × (names_modrm rest k ≡ true))) → (k : ℕ) × ((k < length (s ∷ rest)) × (names_modrm (s ∷ rest) k ≡ true))
-    by true e others = (zero, (omega arith, e))
-    by false e others = let found = others (rw e at h) in let l = found.1.0 in (suc found.0, (omega (arith, l), found.1.1))
+    by : (at : Position) (memory : Bool) → (somewhere at && memory) ≡ true →
+        (index_of_position at < 4) × (((somewhere at && memory) && index_of_position at == index_of_position at) ≡ true)
+    by Nowhere memory h = absurd cc
+    by at memory h = (omega arith, grind arith)
 
 module _ {strict : Bool} {s : List ℕ} {a : Instruction} (is : IsSentence (rows_of packed) strict s a)
     (slots : (raw : Raw) (k : ℕ) → Reads is.whole raw →
-    names_modrm (encodings_within (rows_of packed) strict s is.reading is.whole) k ≡ true → slot_at a k ≡ (shape raw).0)
+    names_modrm (plan_within (rows_of packed) strict s is.reading is.whole) k ≡ true → slot_at a k ≡ (shape raw).0)
     (none : (k : ℕ) → k < 4 → is_memory_slot (slot_at a k) ≡ false) where
   -- where no slot is memory, ModRM isn't a memory form
   pub without_memory : is_memory (Byte is.whole) ≡ false
@@ -142,11 +139,9 @@ module _ {strict : Bool} {s : List ℕ} {a : Instruction} (is : IsSentence (rows
       by false e = refl
       by true e =
           let some = some_memory is.whole e in
-          let at = named_at (encodings_within (rows_of packed) strict s is.reading is.whole)
-          (operand_form is.whole some.0 some.1 (is_ip_relative some.0) refl).operand.written in
-          let slot = slots some.0 at.0 some.1 at.1.1 in
-          let below : at.0 < 4 = let l = at.1.0 in let f = at_most_four (plan_within (rows_of packed) strict s is.reading is.whole) in omega (arith, l, f) in
-          cc (slot, is_shape some.0, none at.0 below)
+          let plan = plan_within (rows_of packed) strict s is.reading is.whole in
+          let at = named_at plan (operand_form is.whole some.0 some.1 (is_ip_relative some.0) refl).operand.written in
+          cc (slots some.0 (index_of_position plan.order.rm) some.1 at.1, is_shape some.0, none (index_of_position plan.order.rm) at.0)
 
 -- ---- a memory form by its byte
 

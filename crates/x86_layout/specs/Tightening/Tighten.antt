@@ -1,7 +1,6 @@
 -- Encodings that differ in how they name an address.
 use Rattle.std.specs.Prelude.{◌≡◌, ℕ, ◌+◌, ◌*◌, ◌/◌, ◌≤◌, ◌<◌, ◌++◌, Bool, true, false, if◌then◌else◌, Option, Some, None, List, [], ◌∷◌}
 use Rattle.std.specs.Prelude.{length, map, take, slice_index, Ok, Err, All}
-use Rattle.std.specs.List.{list_any}
 use Rattle.std.specs.Int.{w32, cast_unsigned, to_le_bytes}
 use Rattle.x86_fields.specs.declared.rex.PrefixRex.{PrefixRex}
 use Rattle.x86_fields.specs.declared.raw.Raw.{Raw}
@@ -17,7 +16,7 @@ use Rattle.x86_decode.specs.declared.instructions.Instruction.{Instruction}
 use Rattle.x86_decode.specs.Head.{escape_bytes}
 use Rattle.x86_decode.specs.Grammar.{IsSentence}
 use Rattle.x86_decode.specs.Answer.{answer_of}
-use Rattle.x86_decode.specs.Addresses.{is_modrm_encoding, encodings_within}
+use Rattle.x86_decode.specs.Addresses.{plan_within, writes_modrm}
 use Rattle.x86_fields.specs.declared.parts.Parts.{Parts}
 use Rattle.x86_fields.specs.Parts.{PartLists, lists_of}
 use Rattle.x86_layout.specs.declared.tightening.tighten.Addressed.{Addressed}
@@ -117,11 +116,11 @@ module _ (strict : Bool) (s : List ℕ) (a : Reading) (v : Encoding strict s a) 
     pub relative : IsRelative strict s a v t sentence.reading sentence.whole
     pub least : IsLeast t
 
-  -- A memory operand is read from ModRM: it is a memory form, and an operand is written as its memory.
+  -- A memory operand is read from ModRM: it is a memory form, and the operand of rm is written as its memory.
   pub record HasMemoryOperand : Type 0 where
     pub raw : Raw
     pub read : v.row_spelled.tail_spelled.pieces.memory ≡ Some raw
-    pub written : list_any is_modrm_encoding (encodings_within (rows_of packed) strict s a v) ≡ true
+    pub written : writes_modrm (plan_within (rows_of packed) strict s a v) ≡ true
 
   -- There is such an operand, and its base is the next instruction or isn't.
   pub record HasOperandForm (ip_relative : Bool) : Type 0 where
