@@ -68,6 +68,10 @@ operand_in operand_list k = if nat_lt k operand_list.count then slice_index_or o
 abbrev pub sized : ℕ → ℕ → Operands
 sized count size = record no_operands { count = count; mem_size = size }
 
+-- with the memory size of a template
+abbrev pub with_size : Template → ℕ → Prefixes → ℕ → Operands → Operands
+with_size t opcode p m operand_list = record operand_list { mem_size = size_bytes (size_at t m) opcode p }
+
 -- those of a template before any is read
 abbrev pub sized_by : Template → ℕ → Prefixes → ℕ → Operands
 sized_by t opcode p m = sized t.order.count (size_bytes (size_at t m) opcode p)
