@@ -164,6 +164,7 @@ fn walk_bounded<'a, W: Words, T: Reader<u64, u8>, K: Start>(
 }
 
 /// The walk over the first fifteen bytes of an input, or over all where there are fewer, into a blank instruction.
+#[cold]
 #[inline(never)]
 pub fn walk_rarely(strict: bool, within: &[u8], inst: &mut Instruction) -> Result<(), DecodeError>
     requires { inst.old ≡ invalid_instruction }

@@ -21,8 +21,8 @@ use x86_forms::Form;
 use x86_operands::{Operand, Slot};
 
 /// Every group has a plan, and of the groups only 8F with a reg other than 0 isn't built: no other plan of a record
-/// refuses as `Incomplete`, and no record does so at the opcode byte. That of 8F takes the address before. So `read_group` answers `IncompleteDecoder` for
-/// 8F alone. Source: Intel SDM volume 2, appendix A.4, group 1A.
+/// refuses as `Incomplete`, and no record does so at the opcode byte. That of 8F takes the address before. So
+/// `read_group` answers `IncompleteDecoder` for 8F alone. Source: Intel SDM volume 2, appendix A.4, group 1A.
 #[tactic(auto, using(crate::proofs::GroupLemmas::no_fault, crate::proofs::GroupLemmas::gap_form, crate::proofs::GroupLemmas::gap_reg, crate::proofs::GroupLemmas::gap_address, crate::proofs::GroupLemmas::group_left_out))]
 pub fn groups_are_built()
     ensures at_opcode { (strict : Bool) (row : TableRow) (p : Prefixes) →
