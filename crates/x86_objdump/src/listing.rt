@@ -44,8 +44,10 @@ impl Course<SHOWN_ROOM, Address> for ShowAt {
                 Entry::Line(length)
             }
             Err(error) => match shown_at(window, error) {
-                AtRefusal::Undecided => Entry::Undecided,
-                AtRefusal::Ended(ending) => Entry::Ended(ending),
+                AtRefusal::Nothing => match window.ended {
+                    Some(ending) => Entry::Ended(ending),
+                    None => Entry::Undecided,
+                },
                 AtRefusal::Refused => match vector_at(bytes, window.ended.is_some()) {
                     Vector::Cut => Entry::Undecided,
                     Vector::Whole(length) => {

@@ -22,12 +22,12 @@ pub fn shown_at(window: &Window, error: DecodeError) -> AtRefusal
 {
     match window.ended {
         None => match error {
-            DecodeError::ExhaustedInput => AtRefusal::Undecided,
+            DecodeError::ExhaustedInput => AtRefusal::Nothing,
             _ => AtRefusal::Refused,
         },
-        Some(ending) => {
+        Some(_) => {
             if window.bytes.is_empty() {
-                AtRefusal::Ended(ending)
+                AtRefusal::Nothing
             } else {
                 AtRefusal::Refused
             }
@@ -58,8 +58,10 @@ impl Course<LINE_ROOM, Place> for PastRefusals {
                 Entry::Line(length_of(inst))
             }
             Err(error) => match shown_at(window, error) {
-                AtRefusal::Undecided => Entry::Undecided,
-                AtRefusal::Ended(ending) => Entry::Ended(ending),
+                AtRefusal::Nothing => match window.ended {
+                    Some(ending) => Entry::Ended(ending),
+                    None => Entry::Undecided,
+                },
                 AtRefusal::Refused => {
                     push_refusal(held, place, error);
                     Entry::Line(1)
