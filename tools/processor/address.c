@@ -16,7 +16,7 @@ static const struct implied {
 
 /* Names that read their first operand before they write it, or don't write it. */
 #define READ_FIRST "BT CMP TEST CMPS MOVS SCAS CALL CALLF JMP JMPF CLFLUSH CLFLUSHOPT CLWB DIV IDIV MUL IMUL FLDCW FLDENV FRSTOR FXRSTOR LDMXCSR PUSH POP " \
-    "VERR VERW XRSTOR XRSTOR64 NOP OUTS "
+    "VERR VERW XRSTOR XRSTOR64 NOP OUTS PTWRITE "
 
 static bool is_implied(const struct test *it, uint64_t address)
 {

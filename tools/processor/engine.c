@@ -145,10 +145,19 @@ struct outcome run(const uint8_t *bytes, int count)
     return last;
 }
 
+bool has_twin(const uint8_t *bytes)
+{
+    int end = 0;
+    while (end < 15 && is_prefix(bytes[end])) end++;
+    return end > 1 && memchr(bytes + 1, bytes[0], (size_t)end - 1) != NULL;
+}
+
 int least_bytes(const uint8_t *bytes, int from, struct outcome *of)
 {
     while (from <= 15 && wants_more(*of = run(bytes, from), from)) from++;
-    return from;
+    /* Some processors raise #GP at 15 bytes and don't fetch a 16th: of these the 14 without a prefix that comes again say whether they end. */
+    bool is_open = from == 15 && of->trap == TRAP_GP && has_twin(bytes) && wants_more(run(bytes + 1, 14), 14);
+    return is_open ? 16 : from;
 }
 
 const char *trap_name(int trap)

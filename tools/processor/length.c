@@ -19,11 +19,12 @@ static bool is_amds(const struct code *code)
 static void check_too_long(const struct test *it)
 {
     struct outcome of;
-    bool is_open = least_bytes(it->bytes, 15, &of) == 16;
+    bool is_open = least_bytes(it->bytes, 15, &of) == 16, is_unclear = of.trap == TRAP_GP && !has_twin(it->bytes);
     of = run(it->bytes, 20);
     set_example(it->bytes, 20, it->text, &of);
     if (is_open && of.trap == TRAP_GP) tally("refusal agrees: too long");
     else if (is_amds(&it->code) && of.trap == TRAP_UD) tally("refusal undecided: too long, 3DNow or SSE4a isn't here");
+    else if (is_unclear && of.trap == TRAP_GP) tally("refusal undecided: too long, #GP at 15 bytes, and no prefix comes again");
     else tally("refusal DIFFERS: too long, %s", trap_name(of.trap));
 }
 
@@ -76,8 +77,9 @@ void check_line(const struct test *it, bool with_all_cuts)
     }
     struct outcome of = run(it->bytes, length), cut;
     struct registers left = after;
-    bool is_short = wants_more(of, length), is_absent = of.trap == TRAP_UD && of.rip == CODE_END - (uint64_t)length;
-    if (is_short) count = least_bytes(it->bytes, length + 1, &of);
+    bool is_short = wants_more(of, length) || (length == 15 && of.trap == TRAP_GP), is_absent = of.trap == TRAP_UD && of.rip == CODE_END - (uint64_t)length;
+    if (is_short) count = least_bytes(it->bytes, length, &of);
+    is_short = count > length;
     while (!is_short && count > 1 && !wants_more(cut = run(it->bytes, count - 1), count - 1)) count--;
     for (int part = length - 2; with_all_cuts && count == length && part > 0; part--) check_part(it, part, "cut shorter");
     set_example(it->bytes, length, it->text, &of);

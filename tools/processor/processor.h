@@ -28,6 +28,7 @@ extern uint64_t fs_base, gs_base, runs;
 void start_engine(bool with_data);      /* from here on the process may read, write and exit, and nothing else */
 struct outcome run(const uint8_t *bytes, int count);
 int least_bytes(const uint8_t *bytes, int from, struct outcome *of);    /* with how many of 15 the processor wants no more; or 16 */
+bool has_twin(const uint8_t *bytes);    /* whether the first prefix comes again, so that it isn't needed */
 bool wants_more(struct outcome of, int count);
 const char *trap_name(int trap);
 bool probe(void);

@@ -55,7 +55,7 @@ use crate::commands::program::Program;
 use crate::commands::request::Request;
 use crate::listings::fields::FieldLines;
 use crate::listings::line::{Lines, Plain};
-use crate::listings::listing::{Course, UpToRefusal};
+use crate::listings::listing::{LineSource, UpToRefusal};
 use crate::listings::status::{Finished, Status};
 use crate::listings::sweep::PastRefusals;
 use crate::listings::tightening::LeastLines;
@@ -139,7 +139,7 @@ pub fn addresses_are_by_the_bits()
         → value_at (raw_form raw) regs next ≡ encoded_address raw regs next }
 {}
 
-/// The line of each command, the listing of each of the two courses and where it begins, what is known of that as the
+/// The line of each command, the listing of each of the two line sources and where it begins, what is known of that as the
 /// text is read, and the task of each request.
 pub fn commands_have_their_lines<L: Lines + Drop>()
     ensures list { (l : Plain) (strict : Bool) (place : ℕ) (i : Instruction) (bytes : List ℕ) →
@@ -151,20 +151,21 @@ pub fn commands_have_their_lines<L: Lines + Drop>()
         (bytes : List ℕ) → ⟦<LeastLines as Lines>⟧.text l strict place i bytes
         ≡ least_text place (length_of i) (shortest_length strict bytes) }
     ensures up_to_refusal { (c : UpToRefusal L) (strict : Bool) (place : ℕ) (t : Text) →
-        ⟦<UpToRefusal<L> as Course<LINE_ROOM, Place>>⟧.lists c strict place t
+        ⟦<UpToRefusal<L> as LineSource<LINE_ROOM, Place>>⟧.lists c strict place t
         ≡ listing_at strict (L.text c.lines strict) place t }
     ensures known_up_to_refusal { (c : UpToRefusal L) (strict : Bool) (place : ℕ) (t : Text) →
-        ⟦<UpToRefusal<L> as Course<LINE_ROOM, Place>>⟧.knows c strict place t
+        ⟦<UpToRefusal<L> as LineSource<LINE_ROOM, Place>>⟧.knows c strict place t
         ≡ listing_at strict (L.text c.lines strict) place t }
     ensures past_refusals { (c : PastRefusals) (strict : Bool) (place : ℕ) (t : Text) →
-        ⟦<PastRefusals as Course<LINE_ROOM, Place>>⟧.lists c strict place t
+        ⟦<PastRefusals as LineSource<LINE_ROOM, Place>>⟧.lists c strict place t
         ≡ sweep_at strict place t }
     ensures known_past_refusals { (c : PastRefusals) (strict : Bool) (place : ℕ) (t : Text) →
-        ⟦<PastRefusals as Course<LINE_ROOM, Place>>⟧.knows c strict place t
+        ⟦<PastRefusals as LineSource<LINE_ROOM, Place>>⟧.knows c strict place t
         ≡ known_sweep_at strict place t }
-    ensures base { (c : UpToRefusal L) → ⟦<UpToRefusal<L> as Course<LINE_ROOM, Place>>⟧.base c ≡ 0 }
+    ensures base { (c : UpToRefusal L) →
+        ⟦<UpToRefusal<L> as LineSource<LINE_ROOM, Place>>⟧.base c ≡ 0 }
     ensures sweep_base { (c : PastRefusals) →
-        ⟦<PastRefusals as Course<LINE_ROOM, Place>>⟧.base c ≡ 0 }
+        ⟦<PastRefusals as LineSource<LINE_ROOM, Place>>⟧.base c ≡ 0 }
     ensures tasks { (request : Request) → ⟦<Request as Program>⟧.task request ≡ task_of request }
 {}
 

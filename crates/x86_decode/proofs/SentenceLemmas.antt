@@ -58,7 +58,8 @@ module _ (reading : Reading) (places : Places) (n : ℕ) where
 
 pub sentence_tied : (rows : Rows) (strict : Bool) (s : List ℕ) (a : Instruction) → IsSentence rows strict s a → HasTiedOperands a
 sentence_tied rows strict s a is = rw is.yields
-    (tied_operands is.reading (places_of rows strict s is.reading is.whole) (length s) (spelled_tied _ _ is.whole.tail is.reading is.whole.row_spelled (record_in_order strict is.whole.row _)))
+    (tied_operands is.reading (places_of rows strict s is.reading is.whole) (length s)
+    (spelled_tied _ _ is.whole.tail is.reading is.whole.row_spelled (record_in_order strict is.whole.row _)))
 
 -- ---- the memory operand of ModRM, by the laws on such operands and on shapes
 

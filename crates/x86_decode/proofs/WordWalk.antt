@@ -18,27 +18,28 @@ use Rattle.x86_forms.specs.Rows.{printed_row}
 use Rattle.x86_forms.specs.Words.{packed, rows_of, unpack}
 use Rattle.x86_forms.proofs.WordLemmas.{row_of_printed_word}
 use Rattle.x86_operands.specs.Places.{Placed}
-use Rattle.x86_decode.specs.declared.head.Lead.TheVariants.{Vex, Escape}
+use Rattle.x86_decode.specs.declared.head.ByteClass.TheVariants.{Vex, Escape}
 use Rattle.x86_decode.specs.Head.{Rows, column_of, is_opcode, vex_refusal, seen_by}
-use Rattle.x86_decode.specs.Lead.{lead_of}
+use Rattle.x86_decode.specs.ByteClass.{byte_class}
 use Rattle.x86_decode.specs.Walk.{body_placed, escape_step, found_word, head_step, opcode_step, read_escaped, read_word, row_placed, some_row, walk_placed}
 use Rattle.x86_decode.proofs.HeadWalk.{Headed, at_other}
-use Rattle.x86_decode.proofs.LeadLemmas.{vex_lead, escape_lead, plain_lead, is_plain}
+use Rattle.x86_decode.proofs.ByteClassLemmas.{vex_class, escape_class, plain_class, is_plain}
 
-pub found_vex : (rows : Rows) (p : Prefixes) (b : ℕ) (s : State ℕ) → lead_of b ≡ Vex → outcome (Err (vex_refusal p)) s ≡ read_word rows p b s
+pub found_vex : (rows : Rows) (p : Prefixes) (b : ℕ) (s : State ℕ) → byte_class b ≡ Vex → outcome (Err (vex_refusal p)) s ≡ read_word rows p b s
 unfolding opcode_step
-found_vex rows p b s h = rw (vex_lead b h) refl
+found_vex rows p b s h = rw (vex_class b h) refl
 
-pub found_plain : (rows : Rows) (p : Prefixes) (b : ℕ) (s : State ℕ) → is_plain (lead_of b) ≡ true →
+pub found_plain : (rows : Rows) (p : Prefixes) (b : ℕ) (s : State ℕ) → is_plain (byte_class b) ≡ true →
     outcome (Ok (rows One (column_of p) b, p)) s ≡ read_word rows p b s
 unfolding opcode_step
-found_plain rows p b s h = rw ((plain_lead b h).0, (plain_lead b h).1) refl
+found_plain rows p b s h = rw ((plain_class b h).0, (plain_class b h).1) refl
 
-pub found_escaped : (rows : Rows) (p : Prefixes) (b : ℕ) (r : Result (Map × ℕ) DecodeError) (s t : State ℕ) → lead_of b ≡ Escape → outcome r t ≡ escape_step s →
+pub found_escaped : (rows : Rows) (p : Prefixes) (b : ℕ) (r : Result (Map × ℕ) DecodeError) (s t : State ℕ) →
+    byte_class b ≡ Escape → outcome r t ≡ escape_step s →
     then_from r t (λ o. pure (rows o.0 (column_of p) o.1, seen_by o.0 o.1 p)) ≡ read_word rows p b s
 unfolding opcode_step
 found_escaped rows p b r s t h e = ap (λ q. then_from q.answer q.after (λ o. pure (rows o.0 (column_of p) o.1, seen_by o.0 o.1 p))) e
-    ∙ rw (escape_lead b h) refl
+    ∙ rw (escape_class b h) refl
 
 -- ---- the bytes after 0F
 
@@ -111,7 +112,7 @@ opcode_at m b row is = by (nat_lt b 256) refl
         sym (ap (λ o. not (is_some o) || is_opcode m b) (sym (row_of_printed_word m Plain b) ∙ is)) ∙ holds
     by false k = above m b (grind (arith, nat_tests))
 
-one_is_plain : (b : ℕ) → is_opcode One b ≡ true → is_plain (lead_of b) ≡ true
+one_is_plain : (b : ℕ) → is_opcode One b ≡ true → is_plain (byte_class b) ≡ true
 one_is_plain b h = grind (arith, nat_tests)
 
 one_is_other : (b : ℕ) → is_opcode One b ≡ true → is_prefix b ≡ false
@@ -136,7 +137,7 @@ module _ (strict : Bool) (start now : State ℕ) (b : ℕ) (p : Prefixes) (head 
       unpack (packed Of Plain o) ≡ Some row → row_placed strict row p after ≡ walk_placed (rows_of packed) strict start
   after_escape o after escape taken is =
       let opcode = opcode_at Of o row is in
-      let lead : lead_of b ≡ Escape = grind (arith, nat_tests) in
+      let lead : byte_class b ≡ Escape = grind (arith, nat_tests) in
       let other : is_prefix b ≡ false = grind (arith, nat_tests) in
       let escaped : outcome (Ok (Of, o)) after ≡ escape_step now = sym (of_is_escaped o after opcode) ∙ then_escaped (Ok o) now after taken in
       let found : found_word p (packed Of Plain o) after ≡ read_word (rows_of packed) p b now =

@@ -1,11 +1,10 @@
 //! The five calls that decode, and the short walk over a slice.
 
-ghost use Rattle.std.specs.Prelude.{◌≡◌, ◌≢◌, ℕ, Bool, List, Ok, take, true, false, IfOk, OnErr, OnOk};
+ghost use Rattle.std.specs.Prelude.{◌≡◌, ◌≢◌, ℕ, Bool, List, Ok, take, true, false, OnErr, OnOk};
 ghost use Rattle.std.proofs.Common.{rules};
 ghost use Rattle.std.specs.Cmp.{partial_order_from_own_ties};
 ghost use Rattle.std.specs.Cmp.Rules.{comparing};
 ghost use Rattle.std.specs.Ordering.{on, bool_cmp, flip_args, as_partial_cmp};
-ghost use Rattle.x86_fields.specs.ModRM.{is_memory};
 ghost use Rattle.x86_fields.specs.Prefixes.{lock};
 ghost use Rattle.x86_fields.specs.Steps.{next_byte, outcome};
 ghost use Rattle.x86_forms.specs.declared.TableRow.{TableRow};
@@ -37,7 +36,9 @@ pub struct InstDecoder {
     strict: bool,
 }
 
-/// Makes an instruction blank again. It is a call, so the common path has nothing of it.
+/// Makes an instruction blank again. It is a call, so the common path has nothing of it; and cold, so the compiler lays
+/// out that path without jumps over it.
+#[cold]
 #[inline(never)]
 fn make_invalid(inst: &mut Instruction)
     ensures { inst.new ≡ invalid_instruction }

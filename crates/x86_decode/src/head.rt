@@ -5,7 +5,7 @@ ghost use Rattle.x86_fields.specs.Steps.{outcome, pure, then_from};
 ghost use Rattle.x86_fields.specs.Run.{is_prefix, reading_of};
 ghost use Rattle.x86_forms.specs.Words.{rows_of};
 ghost use Rattle.x86_decode.specs.Head.{column_of, is_vex, vex_refusal, seen_by};
-ghost use Rattle.x86_decode.specs.Lead.{lead_of};
+ghost use Rattle.x86_decode.specs.ByteClass.{byte_class};
 ghost use Rattle.x86_decode.specs.Walk.{head_from, escape_step, found_word, read_word};
 
 use x86_arch::Reader;
@@ -14,7 +14,7 @@ use x86_forms::{Column, Map, Words};
 
 /// What a byte is at the beginning of an encoding.
 #[derive(Clone, Copy, Drop)]
-pub enum Lead {
+pub enum ByteClass {
     /// A legacy prefix.
     Legacy,
     Rex,
@@ -25,18 +25,18 @@ pub enum Lead {
     Vex,
 }
 
-const OPC: Lead = Lead::Opcode;
+const OPC: ByteClass = ByteClass::Opcode;
 
-const LEG: Lead = Lead::Legacy;
+const LEG: ByteClass = ByteClass::Legacy;
 
-const REX: Lead = Lead::Rex;
+const REX: ByteClass = ByteClass::Rex;
 
-const ESC: Lead = Lead::Escape;
+const ESC: ByteClass = ByteClass::Escape;
 
-const VEX: Lead = Lead::Vex;
+const VEX: ByteClass = ByteClass::Vex;
 
 /// By the byte: sixteen on a line, followed by the first of them.
-const LEADS: &[Lead; 256] = &[
+const BYTE_CLASSES: &[ByteClass; 256] = &[
     OPC, OPC, OPC, OPC, OPC, OPC, OPC, OPC, OPC, OPC, OPC, OPC, OPC, OPC, OPC, ESC, // 00
     OPC, OPC, OPC, OPC, OPC, OPC, OPC, OPC, OPC, OPC, OPC, OPC, OPC, OPC, OPC, OPC, // 10
     OPC, OPC, OPC, OPC, OPC, OPC, LEG, OPC, OPC, OPC, OPC, OPC, OPC, OPC, LEG, OPC, // 20
@@ -57,24 +57,24 @@ const LEADS: &[Lead; 256] = &[
 
 /// What a byte is at the beginning of an encoding, by the table.
 #[inline(always)]
-pub fn lead_of(byte: u8) -> Lead
-    ensures { result ≡ lead_of byte }
+pub fn byte_class(byte: u8) -> ByteClass
+    ensures { result ≡ byte_class byte }
 {
-    LEADS[byte as usize]
+    BYTE_CLASSES[byte as usize]
 }
 
 /// Whether the byte is a legacy prefix or a REX.
 #[inline(always)]
-#[tactic(auto, using(crate::proofs::LeadLemmas::prefix_lead))]
+#[tactic(auto, using(crate::proofs::ByteClassLemmas::prefix_class))]
 pub fn is_prefix(byte: u8) -> bool
     ensures { result ≡ is_prefix byte }
 {
-    matches!(lead_of(byte), Lead::Legacy | Lead::Rex)
+    matches!(byte_class(byte), ByteClass::Legacy | ByteClass::Rex)
 }
 
 /// The rest of a run of which some bytes were read, and the byte after it. The prefixes stay where they are: by value
 /// they would be packed and taken apart again.
-pub fn read_on<T: Reader<u64, u8>>(
+pub fn read_prefixes<T: Reader<u64, u8>>(
     reader: &mut T,
     prefixes: &mut Prefixes,
 ) -> Result<u8, DecodeError>
@@ -156,14 +156,14 @@ pub fn read_word<W: Words, T: Reader<u64, u8>>(
     ensures { then_from result (T.state reader.new) (found_word prefixes.new)
         ≡ read_word (rows_of (W.word rows.now)) prefixes.old byte (T.state reader.old) }
 {
-    match lead_of(byte) {
-        Lead::Escape => {
+    match byte_class(byte) {
+        ByteClass::Escape => {
             let (map, opcode) = read_escaped(reader)?;
             let word = rows.word(map, column_of(prefixes), opcode);
             *prefixes = seen_by(map, opcode, *prefixes);
             Ok(word)
         }
-        Lead::Vex => Err(vex_refusal(prefixes)),
+        ByteClass::Vex => Err(vex_refusal(prefixes)),
         _ => Ok(rows.word(Map::One, column_of(prefixes), byte)),
     }
 }

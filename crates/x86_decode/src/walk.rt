@@ -11,7 +11,7 @@ ghost use Rattle.x86_decode.specs.Instruction.{holding, invalid_instruction};
 ghost use Rattle.x86_decode.specs.Walk.{body_placed, limit_step, placed_in, unread_step, walk_bounded, walk_placed, decode_step, takes_lock, judgement, error_at_limit};
 
 use crate::bounded::{Bounded, Start, takes_rest};
-use crate::head::{read_on, read_word};
+use crate::head::{read_prefixes, read_word};
 use crate::instructions::Instruction;
 use crate::rows::{Unread, read_row, read_unread};
 use std::marker::{Brand, PhantomData};
@@ -77,7 +77,7 @@ fn read_encoding<W: Words, T: Reader<u64, u8>>(
         then_from result (T.state reader.new) (unread_step strict inst.new)
         ≡ walk_placed (rows_of (W.word rows.now)) strict (T.state reader.old) }
 {
-    let byte = read_on(reader, &mut inst.prefixes)?;
+    let byte = read_prefixes(reader, &mut inst.prefixes)?;
     read_body(rows, reader, inst, byte)
 }
 
@@ -165,6 +165,7 @@ fn walk_bounded<'a, W: Words, T: Reader<u64, u8>, K: Start>(
 }
 
 /// The walk over the first fifteen bytes of an input, or over all where there are fewer, into a blank instruction.
+#[cold]
 #[inline(never)]
 pub fn walk_rarely(strict: bool, within: &[u8], inst: &mut Instruction) -> Result<(), DecodeError>
     requires { inst.old ≡ invalid_instruction }

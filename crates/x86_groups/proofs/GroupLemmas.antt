@@ -1,5 +1,6 @@
 -- What holds of the records of all groups.
-use Rattle.std.proofs.Common.{◌≡◌, ◌≢◌, ◌≤◌, inl, inr, Err, ℕ, ◌==◌, Bool, true, false, not, ◌||◌, if◌then◌else◌, Some, refl, sym, subst, ap, ◌∙◌, true≢false, arith}
+use Rattle.std.proofs.Common.{◌≡◌, ◌≢◌, ◌≤◌, inl, inr, Err, ℕ, ◌==◌, Bool, true, false, not, ◌||◌, if◌then◌else◌, Some, refl, sym}
+use Rattle.std.proofs.Common.{subst, ap, ◌∙◌, true≢false, arith}
 use Rattle.x86_arch.specs.Reader.{State}
 use Rattle.x86_fields.specs.declared.errors.DecodeError.TheVariants.{IncompleteDecoder}
 use Rattle.x86_groups.specs.Vocabulary.{Prefixes, Form, TableRow, TemplateRow, EitherForm, Incomplete, reg_field}

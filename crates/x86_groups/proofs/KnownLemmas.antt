@@ -13,13 +13,13 @@ use Rattle.x86_fields.specs.declared.sizes.Width.{Width}
 use Rattle.x86_operands.specs.declared.operands.Slot.TheVariants as slots
 use Rattle.x86_operands.specs.declared.operands.Operand.TheVariants as operands
 use Rattle.x86_operands.specs.Columns.{choose, plan_of_row}
-use Rattle.x86_operands.specs.Encodings.{immediate_by, settled}
+use Rattle.x86_operands.specs.Encodings.{immediate_by, resolved}
 use Rattle.x86_operands.specs.Forms.{form_plan, form_record}
 use Rattle.x86_operands.specs.Rows.{form_rows}
 use Rattle.x86_operands.specs.Operands.{shape}
 use Rattle.x86_operands.specs.Templates.{reg_part, rm_encoding}
 use Rattle.x86_operands.specs.PlanSteps.{immediate_read, known_operand, memory_or}
-use Rattle.x86_groups.specs.Groups.{group_plan, group_record, parts_of, record_of}
+use Rattle.x86_groups.specs.Groups.{group_plan, group_record, operand_encodings, record_of}
 use Rattle.x86_groups.specs.Rows.{group_rows}
 
 module _ (q : Prefixes) (m : ℕ) (memory : Option Raw) where
@@ -27,9 +27,9 @@ module _ (q : Prefixes) (m : ℕ) (memory : Option Raw) where
   abbrev pub IsKnown : OperandEncoding → Type 0
   IsKnown s = immediate_read s ≡ None → known_operand s q m memory ≡ (slots.ImmU8, operands.ImmediateU8 0) → s ≡ encoding.ConstantU8 0
 
-  settled_known : (s : OperandEncoding) (n : ℕ) (p : Prefixes) → IsKnown (settled s n p)
+  resolved_known : (s : OperandEncoding) (n : ℕ) (p : Prefixes) → IsKnown (resolved s n p)
   unfolding shape
-  settled_known s n p = grind arith
+  resolved_known s n p = grind arith
 
   reg_known : (t : Template) (n : ℕ) → IsKnown (reg_part t n)
   unfolding shape
@@ -39,21 +39,21 @@ module _ (q : Prefixes) (m : ℕ) (memory : Option Raw) where
   unfolding shape
   rm_known w = grind arith
 
-  row_known : (chosen : TemplateRow) (row : TableRow) (p : Prefixes) (n : ℕ) → All IsKnown (parts_of (plan_of_row chosen row p n))
+  row_known : (chosen : TemplateRow) (row : TableRow) (p : Prefixes) (n : ℕ) → All IsKnown (operand_encodings (plan_of_row chosen row p n))
   row_known chosen row p n =
       let plan = plan_of_row chosen row p n in
       let t = chosen.template in
       let k = carried row.form in
-      let lasts = All-cons IsKnown plan.last (plan.extra ∷ []) (settled_known t.last k p)
-      (All-cons IsKnown plan.extra [] (settled_known t.extra k p) (All-nil IsKnown)) in
+      let lasts = All-cons IsKnown plan.last (plan.extra ∷ []) (resolved_known t.last k p)
+      (All-cons IsKnown plan.extra [] (resolved_known t.extra k p) (All-nil IsKnown)) in
       All-cons IsKnown plan.rm (plan.reg ∷ plan.last ∷ plan.extra ∷ []) (rm_known t.rm)
       (All-cons IsKnown plan.reg (plan.last ∷ plan.extra ∷ []) (reg_known t k) lasts)
 
   by_group : (b strict : Bool) (row : TableRow) (p : Prefixes) (n : ℕ) →
-      All IsKnown (parts_of ((if b then group_record strict row p else form_record row p).plan n))
+      All IsKnown (operand_encodings ((if b then group_record strict row p else form_record row p).plan n))
   unfolding group_record group_plan form_record form_plan
   by_group true strict row p n = row_known (choose (group_rows row.form) row strict p n) row p n
   by_group false strict row p n = row_known (choose (form_rows row.form) row false p n) row p n
 
-  pub operands_known : (strict : Bool) (row : TableRow) (p : Prefixes) (n : ℕ) → All IsKnown (parts_of ((record_of strict row p).plan n))
+  pub operands_known : (strict : Bool) (row : TableRow) (p : Prefixes) (n : ℕ) → All IsKnown (operand_encodings ((record_of strict row p).plan n))
   operands_known strict row p n = by_group (is_group row.form) strict row p n

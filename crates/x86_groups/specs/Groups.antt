@@ -62,8 +62,8 @@ abbrev pub bad_operand : Prefixes → Plan
 bad_operand p = record (operandless Invalid p) { verdict = Refuses BadOperand }
 
 -- the parts that operands are
-abbrev pub parts_of : Plan → List OperandEncoding
-parts_of plan = plan.rm ∷ plan.reg ∷ plan.last ∷ plan.extra ∷ []
+abbrev pub operand_encodings : Plan → List OperandEncoding
+operand_encodings plan = plan.rm ∷ plan.reg ∷ plan.last ∷ plan.extra ∷ []
 
 -- its one operand is memory at ModRM's address
 abbrev pub TakesAddress : Plan → Type 0

@@ -14,14 +14,14 @@ ghost use Rattle.x86_operands.specs.declared.plans.Verdict.TheVariants.{Refuses}
 ghost use Rattle.x86_operands.specs.declared.plans.OperandEncoding.TheVariants.{ConstantU8};
 ghost use Rattle.x86_operands.specs.Pieces.{IsOrdered};
 ghost use Rattle.x86_operands.specs.PlanSteps.{immediate_read, known_operand, record_step};
-ghost use Rattle.x86_groups.specs.Groups.{IsFenceWithRm, TakesAddress, group_record, group_plan, operandless, bad_operand, parts_of, record_of};
+ghost use Rattle.x86_groups.specs.Groups.{IsFenceWithRm, TakesAddress, group_record, group_plan, operandless, bad_operand, operand_encodings, record_of};
 
 use x86_forms::Form;
 use x86_operands::{Operand, Slot};
 
 /// Every group has a plan, and of the groups only 8F with a reg other than 0 isn't built: no other plan of a record
-/// refuses as `Incomplete`, and no record does so at the opcode byte. That of 8F takes the address before. So `read_group` answers `IncompleteDecoder` for
-/// 8F alone. Source: Intel SDM volume 2, appendix A.4, group 1A.
+/// refuses as `Incomplete`, and no record does so at the opcode byte. That of 8F takes the address before. So
+/// `read_group` answers `IncompleteDecoder` for 8F alone. Source: Intel SDM volume 2, appendix A.4, group 1A.
 #[tactic(auto, using(crate::proofs::GroupLemmas::no_fault, crate::proofs::GroupLemmas::gap_form, crate::proofs::GroupLemmas::gap_reg, crate::proofs::GroupLemmas::gap_address, crate::proofs::GroupLemmas::group_left_out))]
 pub fn groups_are_built()
     ensures at_opcode { (strict : Bool) (row : TableRow) (p : Prefixes) →
@@ -80,5 +80,5 @@ pub fn operands_are_known()
     ensures { (strict : Bool) (row : TableRow) (p q : Prefixes) (m n : ℕ) (memory : Option Raw) →
         All (λ s. immediate_read s ≡ None → known_operand s q m memory
         ≡ (Slot.ImmU8, Operand.ImmediateU8 0) → s ≡ ConstantU8 0)
-        (parts_of ((record_of strict row p).plan n)) }
+        (operand_encodings ((record_of strict row p).plan n)) }
 {}

@@ -5,7 +5,7 @@ ghost use Rattle.x86_objdump.specs.Listing.{shown_at, known_at, showing};
 use crate::lines::{SHOWN_ROOM, push_bad, push_shown_at, push_vector};
 use crate::vectors::{Vector, vector_at};
 use x86_cli::laws::decoder_laws;
-use x86_cli::listings::listing::{Course, Entry, length_of, list};
+use x86_cli::listings::listing::{Entry, LineSource, length_of, list};
 use x86_cli::listings::sweep::shown_at;
 use x86_cli::text::window::AtRefusal;
 use x86_cli::{Finished, Program};
@@ -19,7 +19,7 @@ pub struct ShowAt {
     pub base: u64,
 }
 
-impl Course<SHOWN_ROOM, Address> for ShowAt {
+impl LineSource<SHOWN_ROOM, Address> for ShowAt {
     ghost lists = { λ s strict place text. shown_at strict s.base place text };
 
     ghost knows = { λ s strict place text. known_at strict s.base place text };
@@ -44,8 +44,10 @@ impl Course<SHOWN_ROOM, Address> for ShowAt {
                 Entry::Line(length)
             }
             Err(error) => match shown_at(window, error) {
-                AtRefusal::Undecided => Entry::Undecided,
-                AtRefusal::Ended(ending) => Entry::Ended(ending),
+                AtRefusal::Nothing => match window.ended {
+                    Some(ending) => Entry::Ended(ending),
+                    None => Entry::Undecided,
+                },
                 AtRefusal::Refused => match vector_at(bytes, window.ended.is_some()) {
                     Vector::Cut => Entry::Undecided,
                     Vector::Whole(length) => {

@@ -14,7 +14,7 @@ use Rattle.x86_operands.specs.Pieces.{is_modrm_encoding, writes_modrm}
 use Rattle.x86_operands.specs.declared.sizing.Size.TheVariants as size
 use Rattle.x86_operands.specs.declared.plans.OperandEncoding.TheVariants as encoding
 use Rattle.x86_operands.specs.Asks.{immediate_width, immediates_width, part_width}
-use Rattle.x86_operands.specs.Encodings.{settled, size_bytes}
+use Rattle.x86_operands.specs.Encodings.{resolved, size_bytes}
 use Rattle.x86_operands.specs.Templates.{fixed_encoding, is_order, is_register_place, is_sound, reg_encoding, rm_encoding, size_at, somewhere}
 use Rattle.x86_operands.specs.Columns.{choose, opcode_of, plan_of_row, is_there, is_placed, is_reg, is_rm, is_prefixed, is_named}
 use Rattle.x86_operands.specs.declared.rows.Rm.TheVariants as rms
@@ -130,10 +130,10 @@ few t = nat_lt (most t.last + most t.extra) 9
 abbrev pub row_fits : Bool → TemplateRow → Bool
 row_fits gaps row = (gaps || not (has_gap row.verdict)) && (is_sound row.template && few row.template)
 
-settled_most : (s : OperandEncoding) (n : ℕ) (p : Prefixes) → immediate_width (settled s n p) ≤ most s
+settled_most : (s : OperandEncoding) (n : ℕ) (p : Prefixes) → immediate_width (resolved s n p) ≤ most s
 settled_most s n p = grind arith
 
-part_most : (at : Position) (s : OperandEncoding) (n : ℕ) (p : Prefixes) → part_width at (settled s n p) ≤ most s
+part_most : (at : Position) (s : OperandEncoding) (n : ℕ) (p : Prefixes) → part_width at (resolved s n p) ≤ most s
 part_most Nowhere s n p = omega arith
 part_most at s n p = settled_most s n p
 
@@ -159,7 +159,7 @@ module _ (gaps : Bool) (own : TableRow) (strict : Bool) (p : Prefixes) (m : ℕ)
       let t = row.template in
       let n = carried own.form in
       let parts = and_parts (is_sound t) (few t) (and_parts (gaps || not (has_gap row.verdict)) _ h).1 in
-      narrow_by (immediates_width (plan_of_row row own p m)) (part_width t.order.last (settled t.last n p)) (part_width t.order.extra (settled t.extra n p))
+      narrow_by (immediates_width (plan_of_row row own p m)) (part_width t.order.last (resolved t.last n p)) (part_width t.order.extra (resolved t.extra n p))
       (most t.last) (most t.extra) refl (part_most t.order.last t.last n p) (part_most t.order.extra t.extra n p) parts.1
 
   pub in_order : (row : TemplateRow) → row_fits gaps row ≡ true → is_order row.template.order ≡ true
@@ -191,7 +191,7 @@ row_in_memory row = is_register_place row.at.place || in_memory row
 abbrev pub keeps_reg : TemplateRow → Bool
 keeps_reg row = rm_free row && row_in_memory row
 
-settled_alike : (s : OperandEncoding) (n : ℕ) (p q : Prefixes) → SamePrefixes p q → settled s n p ≡ settled s n q
+settled_alike : (s : OperandEncoding) (n : ℕ) (p q : Prefixes) → SamePrefixes p q → resolved s n p ≡ resolved s n q
 settled_alike s n p q h = grind arith
 
 size_alike : (s : Size) (o : ℕ) (p q : Prefixes) → SamePrefixes p q → size_bytes s o p ≡ size_bytes s o q
@@ -220,8 +220,8 @@ has_memory_alone plan = writes_modrm plan && (rm_free_encoding plan.last && (rm_
 abbrev pub plan_in_memory : Plan → Bool
 plan_in_memory plan = is_refusal plan.verdict || has_memory_alone plan
 
-settled_free : (s : OperandEncoding) (n : ℕ) (p : Prefixes) → rm_free_encoding (settled s n p) ≡ rm_free_encoding s
-settled_free s n p = grind arith
+resolved_free : (s : OperandEncoding) (n : ℕ) (p : Prefixes) → rm_free_encoding (resolved s n p) ≡ rm_free_encoding s
+resolved_free s n p = grind arith
 
 reg_free : (rm of_opcode : Bool) (w : Width) (n : ℕ) → rm ≡ true → rm_free_encoding (if rm then reg_encoding w else fixed_encoding of_opcode w n) ≡ true
 reg_free rm of_opcode w n h = grind arith
@@ -235,7 +235,7 @@ pub chosen_in_memory : (row : TemplateRow) (own : TableRow) (p : Prefixes) (m : 
 chosen_in_memory row own p m h =
     let t = row.template in
     let n = carried own.form in
-    rw (settled_free t.last n p, settled_free t.extra n p)
+    rw (resolved_free t.last n p, resolved_free t.extra n p)
     (with_reg (is_refusal row.verdict) (somewhere t.order.rm) (is_modrm_encoding (rm_encoding t.rm)) (rm_free_encoding t.last) (rm_free_encoding t.extra)
     _ (reg_free (somewhere t.order.rm) t.of_opcode t.reg n) (and_parts (no_rm_names row.names) _ h).1)
 

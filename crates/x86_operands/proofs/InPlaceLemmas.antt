@@ -7,7 +7,7 @@ use Rattle.x86_fields.specs.Steps.{Outcome, outcome, then_from, pure, ◌>>=◌}
 use Rattle.x86_operands.specs.PlanSteps.{address_step, known_operand, leading_read, other_read, put_encoded, put_in, read_plan, reading_with, rm_read}
 use Rattle.x86_operands.specs.Plans.{template_plan}
 use Rattle.x86_operands.specs.Operands.{shape}
-use Rattle.x86_operands.specs.Encodings.{settled}
+use Rattle.x86_operands.specs.Encodings.{resolved}
 use Rattle.x86_operands.specs.Templates.{fits_form, fixed_encoding, index_of_position, is_last, is_read_at, is_stack, reg_encoding, reg_part, rm_encoding}
 use Rattle.x86_operands.specs.Templates.{somewhere}
 use Rattle.x86_operands.specs.OperandList.{sized_by, value_if_ok}
@@ -22,7 +22,7 @@ no_extra at h = cc
 module _ (t : Template) (n : ℕ) (p : Prefixes) (m : ℕ) where
   pub plan_is_read : (opcode : ℕ) (s : State ℕ) → is_read_at t m ≡ true → read_plan (template_plan t n opcode p m) p m s ≡
       (leading_read t.order (reg_part t n) (rm_encoding t.rm) p m (sized_by t opcode p m) >>= λ leading.
-      other_read t.order.last (settled t.last n p) p m leading >>= λ operand_list. pure (reading_with opcode p operand_list)) s
+      other_read t.order.last (resolved t.last n p) p m leading >>= λ operand_list. pure (reading_with opcode p operand_list)) s
   unfolding read_plan
   plan_is_read opcode s h = rw (no_extra t.order.extra (read_parts t m h).extra) refl
 
@@ -43,7 +43,7 @@ module _ (t : Template) (n : ℕ) (p : Prefixes) (m : ℕ) where
 
 pub at_position : (at : Position) (k n : ℕ) (l : OperandEncoding) (p : Prefixes) (m : ℕ) (operand_list : Operands) (s : State ℕ) →
     k ≡ index_of_position at → at ≢ Nowhere → is_last l ≡ true →
-    put_encoded k (settled l 0 p) p m None operand_list s ≡ other_read at (settled l n p) p m operand_list s
+    put_encoded k (resolved l 0 p) p m None operand_list s ≡ other_read at (resolved l n p) p m operand_list s
 at_position Nowhere k n l p m operand_list s e h last = absurd (h refl)
 at_position at k n l p m operand_list s e h last = rw (e, last_by l 0 n p last) refl
 

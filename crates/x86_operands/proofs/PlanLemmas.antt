@@ -14,7 +14,7 @@ use Rattle.x86_fields.proofs.EndLemmas.{halts_same, over, final_ok, final_other,
 use Rattle.x86_fields.proofs.PieceLemmas.{takes_map, ends_raw, takes_raw, halts_raw, halts_piece, raw_long, none_there, one_there, more_missing, more_there}
 use Rattle.x86_fields.proofs.PieceLemmas.{FirstPiece, nothing, piece, first_piece, between_nil}
 use Rattle.x86_operands.specs.Plans.{Plan, is_refusal}
-use Rattle.x86_operands.specs.PlanSteps.{address_step, changed, ended, error_of, known_operand, leading_read, other_read, put_in, read_opcode, read_plan}
+use Rattle.x86_operands.specs.PlanSteps.{address_step, changed, row_ended, error_of, known_operand, leading_read, other_read, put_in, read_opcode, read_plan}
 use Rattle.x86_operands.specs.PlanSteps.{reading_with, rm_read, sized, suffix_opcode}
 use Rattle.x86_operands.specs.Asks.{part_width}
 use Rattle.x86_operands.specs.Templates.{has_address}
@@ -171,7 +171,7 @@ module _ (plan : Plan) (p : Prefixes) (m : ℕ) where
   extra_step = other_read plan.order.extra plan.extra p m
 
   abbrev after_last : Operands → Step Reading
-  after_last x = extra_step x >>= ended plan p
+  after_last x = extra_step x >>= row_ended plan p
 
   abbrev after_leading : Operands → Step Reading
   after_leading x = last_step x >>= after_last
@@ -227,7 +227,7 @@ module _ (plan : Plan) (p : Prefixes) (m : ℕ) where
 
     -- after the operands
     ends_ended : (last extra : List ℕ) (x : Operands) → x ≡ written memory last extra → length last ≡ last_width → length extra ≡ extra_width →
-        EndsWell (λ l r. Yields (address ++ (last ++ (extra ++ l))) r) (λ l. Between (address ++ (last ++ (extra ++ l)))) (ended plan p x)
+        EndsWell (λ l r. Yields (address ++ (last ++ (extra ++ l))) r) (λ l. Between (address ++ (last ++ (extra ++ l)))) (row_ended plan p x)
     ends_ended last extra x is l e =
         ends_bind (IsNamed v plan.opcode) IsEmpty (λ q r. Yields (address ++ (last ++ (extra ++ q))) r)
         (λ q. Between (address ++ (last ++ (extra ++ q)))) (read_opcode v plan.opcode)
@@ -255,11 +255,12 @@ module _ (plan : Plan) (p : Prefixes) (m : ℕ) where
         (last_step x) after_last (reads_other p m plan.order.last plan.last x).0
         (λ q none. past_address q (none_there widths q none))
         (λ last y g. ends_then (IsPut p m plan.order.extra plan.extra y) IsEmpty (λ l r. Yields (address ++ (last ++ l)) r)
-        (λ l. Between (address ++ (last ++ l))) (extra_step y) (ended plan p) (reads_other p m plan.order.extra plan.extra y).0
+        (λ l. Between (address ++ (last ++ l))) (extra_step y) (row_ended plan p) (reads_other p m plan.order.extra plan.extra y).0
         (λ q none. past_address (last ++ q) (one_there last_width (extra_width ∷ suffix_width v ∷ []) last q g.1
         (none_there (extra_width ∷ suffix_width v ∷ []) q none)))
         (λ extra z k. ends_ended last extra z
-        (k.0 ∙ ap (put_in plan.order.extra (operand_from plan.extra p m extra)) (g.0 ∙ ap (put_in plan.order.last (operand_from plan.last p m last)) is)) g.1 k.1))
+        (k.0 ∙ ap (put_in plan.order.extra (operand_from plan.extra p m extra))
+        (g.0 ∙ ap (put_in plan.order.last (operand_from plan.last p m last)) is)) g.1 k.1))
 
   pub ends_plan : EndsWell Yields Between (read_plan plan p m)
   unfolding read_plan
@@ -270,7 +271,7 @@ module _ (plan : Plan) (p : Prefixes) (m : ℕ) where
   -- ---- the pieces are taken
 
   takes_pieces : (tail : List ℕ) (r : Result Reading DecodeError) (s : SpellsPieces plan p m tail) →
-      Takes (ended plan p (operands_from plan p m s.memory s.immediates)) s.suffix r → Takes (read_plan plan p m) tail r
+      Takes (row_ended plan p (operands_from plan p m s.memory s.immediates)) s.suffix r → Takes (read_plan plan p m) tail r
   unfolding read_plan
   takes_pieces tail r s t =
       let last : List ℕ = take last_width s.immediates in
@@ -283,7 +284,7 @@ module _ (plan : Plan) (p : Prefixes) (m : ℕ) where
       (takes_leading s.address s.memory s.address_spelled)
       (takes_bind (last_step (leading s.memory)) after_last last (extra ++ s.suffix) _ r
       ((reads_other p m plan.order.last plan.last (leading s.memory)).1 last last_long)
-      (takes_bind (extra_step _) (ended plan p) extra s.suffix _ r ((reads_other p m plan.order.extra plan.extra _).1 extra extra_long) t)))
+      (takes_bind (extra_step _) (row_ended plan p) extra s.suffix _ r ((reads_other p m plan.order.extra plan.extra _).1 extra extra_long) t)))
 
   pub takes_tail : (tail : List ℕ) (reading : Reading) → SpellsTail plan p m tail reading → Takes (read_plan plan p m) tail (Ok reading)
   takes_tail tail reading s =
@@ -309,24 +310,24 @@ module _ (plan : Plan) (p : Prefixes) (m : ℕ) where
     abbrev make : ℕ → Reading
     make opcode = reading_with opcode (changed plan.change p) x
 
-    ends_named : EndsWell (λ q r. Unit {0}) (λ q. Unit {0}) (ended plan p x)
+    ends_named : EndsWell (λ q r. Unit {0}) (λ q. Unit {0}) (row_ended plan p x)
     ends_named = ends_bind (IsNamed v plan.opcode) IsEmpty (λ q r. Unit {0}) (λ q. Unit {0}) (read_opcode v plan.opcode)
         (λ opcode. pure (make opcode)) (ends_opcode v plan.opcode) (λ q h. tt) (λ q e h. tt)
         (λ q opcode h. ends_pure (λ q r. Unit {0}) (λ q. Unit {0}) (make opcode) tt)
 
-    settled : (q : List ℕ) → (r : Result ℕ DecodeError) × Takes (read_opcode v plan.opcode) q r × IsFinal r → Halts (ended plan p x) q
-    settled q (Ok o, t, d) = over q [] (Ok (make o)) (sym (append-nil q)) (takes_map (read_opcode v plan.opcode) make q o t) (final_ok (make o))
-    settled q (Err e, t, d) =
+    resolved : (q : List ℕ) → (r : Result ℕ DecodeError) × Takes (read_opcode v plan.opcode) q r × IsFinal r → Halts (row_ended plan p x) q
+    resolved q (Ok o, t, d) = over q [] (Ok (make o)) (sym (append-nil q)) (takes_map (read_opcode v plan.opcode) make q o t) (final_ok (make o))
+    resolved q (Err e, t, d) =
         over q [] (Err e) (sym (append-nil q)) (takes_err (read_opcode v plan.opcode) (λ opcode. pure (make opcode)) q e t) (final_other e d)
 
-    halts_ended : (q : List ℕ) → EndsBetween (suffix_width v ∷ []) q → Halts (ended plan p x) q
+    halts_ended : (q : List ℕ) → EndsBetween (suffix_width v ∷ []) q → Halts (row_ended plan p x) q
     halts_ended q k = by (first_piece (suffix_width v) [] q k)
       where
-        by : FirstPiece (suffix_width v) [] q → Halts (ended plan p x) q
-        by (nothing none) = subst (Halts (ended plan p x)) (sym none) (halts_empty (ended plan p x) ends_named)
+        by : FirstPiece (suffix_width v) [] q → Halts (row_ended plan p x) q
+        by (nothing none) = subst (Halts (row_ended plan p x)) (sym none) (halts_empty (row_ended plan p x) ends_named)
         by (piece l rest h long k) =
             let whole : q ≡ l = h ∙ ap (λ x. l ++ x) (between_nil rest k) ∙ append-nil l in
-            settled q (answered v plan.opcode q (ap length whole ∙ long))
+            resolved q (answered v plan.opcode q (ap length whole ∙ long))
 
   halts_after : (x : Operands) (q : List ℕ) → EndsBetween widths q → Halts (after_leading x) q
   halts_after x q k =
@@ -334,7 +335,7 @@ module _ (plan : Plan) (p : Prefixes) (m : ℕ) where
       halts_piece (last_step x) after_last last_width (extra_width ∷ suffix_width v ∷ []) q
       (λ l. put_in plan.order.last (operand_from plan.last p m l) x) one.0 one.1
       (λ y rest b. let two = reads_other p m plan.order.extra plan.extra y in
-      halts_piece (extra_step y) (ended plan p) extra_width (suffix_width v ∷ []) rest
+      halts_piece (extra_step y) (row_ended plan p) extra_width (suffix_width v ∷ []) rest
       (λ l. put_in plan.order.extra (operand_from plan.extra p m l) y) two.0 two.1 (λ z l c. halts_ended z l c) b) k
 
   abbrev after_memory : Option Raw → Step Reading

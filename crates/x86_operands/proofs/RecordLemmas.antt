@@ -147,7 +147,7 @@ module _ (r : RowRecord) (p : Prefixes) where
   HasGap = (r.at_opcode ≡ Some Incomplete) ⊎ ((m : ℕ) × ((r.plan m).verdict ≡ Refuses Incomplete))
 
   module _ (s : State ℕ) where
-    -- what was settled on the first bytes, if the answer is this
+    -- what was resolved on the first bytes, if the answer is this
     abbrev Settled : Result Reading DecodeError → Type 0
     Settled a = (bytes rest : List ℕ) × (s.left ≡ bytes ++ rest) × RowYields r p bytes a × ((record_step r p s).after ≡ advanced (length bytes) s)
 

@@ -7,7 +7,7 @@ use Rattle.std.proofs.lemmas.List.Sums.{AllPass-from_list_all}
 use Rattle.x86_operands.specs.Vocabulary.{OperandEncoding, Order, Position, First, Second, Third, Fourth, Nowhere, Prefixes, Template, Width, is_memory}
 use Rattle.x86_operands.specs.RowVocabulary.{Place, TemplateRow}
 use Rattle.x86_operands.specs.Columns.{is_placed}
-use Rattle.x86_operands.specs.Encodings.{settled}
+use Rattle.x86_operands.specs.Encodings.{resolved}
 use Rattle.x86_operands.specs.Templates.{fits_form, is_field, is_last, is_order, is_order_of, is_simple, is_read_at, is_sound, is_register_place}
 use Rattle.x86_operands.specs.Templates.{is_sound_row, is_stack, somewhere}
 
@@ -99,5 +99,5 @@ read_parts t m h =
     record { sound = sound_parts t parts.0; last = plain.0; extra = not_true (somewhere t.order.extra) plain.1; form = rest.1 }
 
 -- a last one has nothing of the opcode byte
-pub last_by : (c : OperandEncoding) (n k : ℕ) (p : Prefixes) → is_last c ≡ true → settled c n p ≡ settled c k p
+pub last_by : (c : OperandEncoding) (n k : ℕ) (p : Prefixes) → is_last c ≡ true → resolved c n p ≡ resolved c k p
 last_by c n k p h = grind arith

@@ -8,7 +8,8 @@ use Rattle.x86_operands.specs.declared.operands.Operand.TheVariants as operands
 use Rattle.x86_operands.specs.Operands.{shape}
 use Rattle.x86_operands.specs.Plans.{Plan, RowRecord}
 use Rattle.x86_operands.specs.PlanSteps.{changed, known_operand, put_in, reading_with, record_step, sized}
-use Rattle.x86_operands.specs.Pieces.{is_decoded, suits, slot_read, operand_read, AreTied, IsOrdered, is_modrm_encoding, names_modrm, reading_from, writes_modrm}
+use Rattle.x86_operands.specs.Pieces.{is_decoded, suits, slot_read, operand_read, AreTied, IsOrdered, is_modrm_encoding, names_modrm}
+use Rattle.x86_operands.specs.Pieces.{reading_from, writes_modrm}
 use Rattle.x86_operands.specs.Pieces.{HasShapeAt, operand_from, SpellsMemory, SpellsRow}
 use Rattle.x86_operands.specs.Asks.{modrm_of, part_width}
 use Rattle.x86_operands.specs.Templates.{index_of_position, somewhere}

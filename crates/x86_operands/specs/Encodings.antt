@@ -56,11 +56,11 @@ size_bytes size.FarPointer o p = 2 + width_of (v_class p)
 size_bytes s o p = named_size s o
 
 -- An operand in a plan: the opcode byte has the number of a register, and prefixes choose the size of some immediates.
-abbrev pub settled : OperandEncoding → ℕ → Prefixes → OperandEncoding
-settled (encoding.Z at w k) n p = encoding.Z at w n
-settled encoding.Iv n p = immediate_by encoding.I64 (v_class p)
-settled encoding.Ivq n p = immediate_by encoding.I64Whole (v_class p)
-settled encoding.Ip n p = if operand_size p && not (has_w p) then encoding.I16 else encoding.I32
-settled encoding.Jv n p = if operand_size p && not (has_w p) then encoding.I32From16 else encoding.I32
-settled encoding.Offset n p = if address_size p then encoding.Address32 else encoding.Address64
-settled s n p = s
+abbrev pub resolved : OperandEncoding → ℕ → Prefixes → OperandEncoding
+resolved (encoding.Z at w k) n p = encoding.Z at w n
+resolved encoding.Iv n p = immediate_by encoding.I64 (v_class p)
+resolved encoding.Ivq n p = immediate_by encoding.I64Whole (v_class p)
+resolved encoding.Ip n p = if operand_size p && not (has_w p) then encoding.I16 else encoding.I32
+resolved encoding.Jv n p = if operand_size p && not (has_w p) then encoding.I32From16 else encoding.I32
+resolved encoding.Offset n p = if address_size p then encoding.Address32 else encoding.Address64
+resolved s n p = s

@@ -16,6 +16,10 @@ value_if_ok (Err e) x = Err e
 abbrev pub sized_by : Template → ℕ → Prefixes → ℕ → Operands
 sized_by t opcode p m = sized t.order.count (size_bytes (size_at t m) opcode p)
 
+-- with the memory size of a template
+abbrev pub with_size : Template → ℕ → Prefixes → ℕ → Operands → Operands
+with_size t opcode p m operand_list = record operand_list { mem_size = size_bytes (size_at t m) opcode p }
+
 -- the slot and the operand at an index: nothing at the count and above
 abbrev pub slot_in : Operands → ℕ → Slot
 slot_in operand_list k = if nat_lt k operand_list.count then slice_index_or operand_list.slots k slots.Nothing else slots.Nothing

@@ -195,8 +195,8 @@ reading_with o p operand_list = record {
 }
 
 -- how the reading ends, after its operands
-abbrev pub ended : Plan → Prefixes → Operands → Step Reading
-ended plan p operand_list = read_opcode plan.verdict plan.opcode >>= λ opcode. pure (reading_with opcode (changed plan.change p) operand_list)
+abbrev pub row_ended : Plan → Prefixes → Operands → Step Reading
+row_ended plan p operand_list = read_opcode plan.verdict plan.opcode >>= λ opcode. pure (reading_with opcode (changed plan.change p) operand_list)
 
 -- What a record has after its ModRM: the operands of rm and reg, the last one, another, and its end, which may be a refusal.
 unfoldable pub read_plan : Plan → Prefixes → ℕ → Step Reading
@@ -204,7 +204,7 @@ read_plan plan p m =
     leading_read plan.order plan.reg plan.rm p m (sized plan.order.count plan.size) >>= λ leading.
     other_read plan.order.last plan.last p m leading >>= λ written.
     other_read plan.order.extra plan.extra p m written >>= λ operand_list.
-    ended plan p operand_list
+    row_ended plan p operand_list
 
 -- ModRM as the row uses it: a byte that isn't there reads as C0, and one whose mod isn't looked at as mod 11
 abbrev pub read_modrm : ModrmUse → Step ℕ

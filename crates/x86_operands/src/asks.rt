@@ -3,7 +3,7 @@ ghost use Rattle.std.specs.Prelude.{◌≡◌, ◌≤◌};
 ghost use Rattle.x86_fields.specs.Pieces.{option_bytes};
 ghost use Rattle.x86_operands.specs.Asks.{immediate_width, modrm_of, part_width, plan_ask};
 ghost use Rattle.x86_operands.specs.Columns.{plan_of_row};
-ghost use Rattle.x86_operands.specs.Encodings.{settled};
+ghost use Rattle.x86_operands.specs.Encodings.{resolved};
 
 use crate::order::Position;
 use crate::plans::{Fault, ModrmUse, OperandEncoding, Verdict};
@@ -69,12 +69,12 @@ pub fn used_modrm(usage: ModrmUse, modrm: Option<u8>) -> ModRM
 
 /// How many bytes of immediate an operand has, if there is one.
 fn part_width(at: Position, encoding: OperandEncoding, num: u8, prefixes: &Prefixes) -> u8
-    ensures value { result ≡ part_width at (settled encoding num prefixes.now) }
+    ensures value { result ≡ part_width at (resolved encoding num prefixes.now) }
     ensures small { result ≤ 8 }
 {
     match at {
         Position::Nowhere => 0,
-        _ => immediate_width(encoding.settled(num, prefixes)),
+        _ => immediate_width(encoding.resolved(num, prefixes)),
     }
 }
 

@@ -2,11 +2,11 @@
 
 ghost use Rattle.std.specs.Prelude.{◌≡◌, ◌<◌, ◌≢◌, ℕ, Option, None, true, OnOk};
 ghost use Rattle.x86_fields.specs.Steps.{outcome};
-ghost use Rattle.x86_operands.specs.Vocabulary.{Nowhere, Prefixes, Raw};
+ghost use Rattle.x86_operands.specs.Vocabulary.{Nowhere, Prefixes, Raw, is_memory};
 ghost use Rattle.x86_operands.specs.PlanSteps.{known_operand, leading_read, no_operands, other_read, put_at, put_encoded, put_in, read_plan, reading_with, register_slot, rm_read};
-ghost use Rattle.x86_operands.specs.OperandList.{operand_in, sized_by, slot_in, value_if_ok};
+ghost use Rattle.x86_operands.specs.OperandList.{operand_in, sized_by, slot_in, value_if_ok, with_size};
 ghost use Rattle.x86_operands.specs.Places.{place_after_address};
-ghost use Rattle.x86_operands.specs.Encodings.{settled};
+ghost use Rattle.x86_operands.specs.Encodings.{resolved};
 ghost use Rattle.x86_operands.specs.Plans.{template_plan};
 ghost use Rattle.x86_operands.specs.Templates.{fits_form, fixed_encoding, is_last, is_read_at, reg_encoding, reg_part, rm_encoding};
 
@@ -70,7 +70,7 @@ impl Operands {
     /// Writes the operand of a last encoding at an index: an immediate, or a constant that no byte spells.
     #[tactic(auto, unfolding(crate::specs::PlanSteps::operand_step))]
     #[inline(always)]
-    pub(crate) fn put_last<T: Reader<u64, u8>>(
+    pub(crate) fn put_encoded<T: Reader<u64, u8>>(
         &mut self,
         at: usize,
         reader: &mut T,
@@ -120,10 +120,10 @@ impl Operands {
         requires position { at ≢ Nowhere }
         requires last { is_last last ≡ true }
         ensures { (n m : ℕ) → outcome (value_if_ok result self.new) (T.state reader.new)
-            ≡ other_read at (settled last n prefixes.now) prefixes.now m self.old
+            ≡ other_read at (resolved last n prefixes.now) prefixes.now m self.old
             (T.state reader.old) }
     {
-        self.put_last(at as usize, reader, last.settled(0, prefixes))
+        self.put_encoded(at as usize, reader, last.resolved(0, prefixes))
     }
 
     /// The register of reg, if it is an operand.
@@ -182,10 +182,26 @@ impl Operands {
         }
     }
 
-    /// The operand of rm: memory in the memory form, else the register.
-    #[tactic(auto, using(crate::proofs::InPlaceLemmas::rm_in_memory, crate::proofs::InPlaceLemmas::rm_in_register))]
+    /// The memory size, in the memory form or in the register form.
     #[inline(always)]
-    fn read_rm<T: Reader<u64, u8>>(
+    fn put_size(
+        &mut self,
+        in_memory: bool,
+        template: &Template,
+        opcode: Opcode,
+        fields: &PrefixedModRM<'_>,
+    )
+        requires { in_memory ≡ is_memory fields.now.modrm }
+        ensures { self.new ≡ with_size template.now opcode fields.now.prefixes.now fields.now.modrm
+            self.old }
+    {
+        self.mem_size = template.mem_size(in_memory, opcode, fields.sizes);
+    }
+
+    /// The operand of rm in the memory form.
+    #[tactic(auto, using(crate::proofs::InPlaceLemmas::rm_in_memory))]
+    #[inline(always)]
+    fn read_memory<T: Reader<u64, u8>>(
         &mut self,
         at: Position,
         reader: &mut T,
@@ -193,27 +209,54 @@ impl Operands {
         fields: &PrefixedModRM<'_>,
     ) -> Result<(), DecodeError>
         requires position { at ≢ Nowhere }
+        requires memory { is_memory fields.now.modrm ≡ true }
         requires form { fits_form template.now fields.now.modrm ≡ true }
         ensures { outcome (value_if_ok result self.new) (T.state reader.new)
             ≡ rm_read at (rm_encoding template.now.rm) fields.now.prefixes.now fields.now.modrm
             self.old (T.state reader.old) }
     {
-        if !fields.in_memory {
-            self.put_rm(at, template.rm, fields);
-            return Ok(());
-        }
         let raw = read_raw(reader, fields.prefixes, fields.modrm.byte())?;
         put_shape(self, at as usize, &raw);
         Ok(())
     }
 
-    /// The operands of ModRM, or a register that no ModRM names.
+    /// The operand of rm, memory in the memory form, else the register; and the memory size. Each arm looks up its own
+    /// size: so no other choice is made by the form.
+    #[tactic(auto, using(crate::proofs::InPlaceLemmas::rm_in_register))]
+    #[inline(always)]
+    fn read_rm<T: Reader<u64, u8>>(
+        &mut self,
+        at: Position,
+        reader: &mut T,
+        template: &Template,
+        opcode: Opcode,
+        fields: &PrefixedModRM<'_>,
+    ) -> Result<(), DecodeError>
+        requires position { at ≢ Nowhere }
+        requires form { fits_form template.now fields.now.modrm ≡ true }
+        ensures { outcome (value_if_ok result self.new) (T.state reader.new)
+            ≡ rm_read at (rm_encoding template.now.rm) fields.now.prefixes.now fields.now.modrm
+            (with_size template.now opcode fields.now.prefixes.now fields.now.modrm self.old)
+            (T.state reader.old) }
+    {
+        if fields.in_memory {
+            self.put_size(true, template, opcode, fields);
+            self.read_memory(at, reader, template, fields)
+        } else {
+            self.put_size(false, template, opcode, fields);
+            self.put_rm(at, template.rm, fields);
+            Ok(())
+        }
+    }
+
+    /// The operands of ModRM, or a register that no ModRM names; and the memory size.
     #[tactic(auto, using(crate::proofs::InPlaceLemmas::without_modrm, crate::proofs::InPlaceLemmas::with_modrm))]
     #[inline(always)]
     fn read_leading<T: Reader<u64, u8>>(
         &mut self,
         reader: &mut T,
         template: &Template,
+        opcode: Opcode,
         num: u8,
         fields: &PrefixedModRM<'_>,
     ) -> Result<(), DecodeError>
@@ -221,16 +264,18 @@ impl Operands {
         requires form { fits_form template.now fields.now.modrm ≡ true }
         ensures { outcome (value_if_ok result self.new) (T.state reader.new)
             ≡ leading_read template.now.order (reg_part template.now num)
-            (rm_encoding template.now.rm) fields.now.prefixes.now fields.now.modrm self.old
+            (rm_encoding template.now.rm) fields.now.prefixes.now fields.now.modrm
+            (with_size template.now opcode fields.now.prefixes.now fields.now.modrm self.old)
             (T.state reader.old) }
     {
         match template.order.rm {
             Position::Nowhere => {
+                self.put_size(fields.in_memory, template, opcode, fields);
                 self.put_fixed(template, num, fields);
                 Ok(())
             }
             _ => {
-                self.read_rm(template.order.rm, reader, template, fields)?;
+                self.read_rm(template.order.rm, reader, template, opcode, fields)?;
                 self.put_reg(template.order.reg, template.reg, fields);
                 Ok(())
             }
@@ -278,8 +323,7 @@ impl Operands {
             template.now.order.rm fields.now.prefixes.now fields.now.modrm (T.state reader.old)) }
     {
         self.count = template.order.count;
-        self.mem_size = template.mem_size(fields.in_memory, opcode, fields.sizes);
-        self.read_leading(reader, template, num, fields)?;
+        self.read_leading(reader, template, opcode, num, fields)?;
         *address_end = place_of(reader.offset());
         Ok(())
     }

@@ -5,7 +5,7 @@ ghost use Rattle.x86_fields.specs.Steps.{outcome};
 ghost use Rattle.x86_operands.specs.Vocabulary.{Raw, reg_spec};
 ghost use Rattle.x86_operands.specs.PlanSteps.{other_read, pointer_class, pointer_slot, put_at, put_encoded};
 ghost use Rattle.x86_operands.specs.OperandList.{value_if_ok};
-ghost use Rattle.x86_operands.specs.Encodings.{settled};
+ghost use Rattle.x86_operands.specs.Encodings.{resolved};
 ghost use Rattle.x86_operands.specs.Templates.{is_field};
 
 use crate::operand_list::{Operands, put};
@@ -101,7 +101,7 @@ impl Operands {
             OperandEncoding::Destination => self.put_pointer(at, 7, prefixes),
             // No plan has these.
             OperandEncoding::Jv | OperandEncoding::Offset => put!(self at ImmU8 ImmediateU8 0),
-            encoding => return self.put_last(at, reader, encoding),
+            encoding => return self.put_encoded(at, reader, encoding),
         }
         Ok(())
     }
@@ -118,13 +118,13 @@ impl Operands {
     ) -> Result<(), DecodeError>
         requires { is_field encoding ≡ false }
         ensures { outcome (value_if_ok result self.new) (T.state reader.new)
-            ≡ other_read at (settled encoding num prefixes.now) prefixes.now modrm self.old
+            ≡ other_read at (resolved encoding num prefixes.now) prefixes.now modrm self.old
             (T.state reader.old) }
     {
         match at {
             Position::Nowhere => Ok(()),
             at => {
-                let encoding = encoding.settled(num, prefixes);
+                let encoding = encoding.resolved(num, prefixes);
                 self.put_other(at as usize, reader, encoding, prefixes, modrm)
             }
         }

@@ -70,8 +70,10 @@ impl Size {
     }
 }
 
-/// A size that the operation alone decides, and 0 for the others.
-#[inline(always)]
+/// A size that the operation alone decides, and 0 for the others. It is a cold call: opcode bytes have the size that their
+/// operation decides, so the short walk asks for groups alone.
+#[cold]
+#[inline(never)]
 fn named_size(size: Size, opcode: Opcode) -> u8
     ensures { result ≡ named_size size opcode }
 {

@@ -3,7 +3,7 @@
 ghost use Rattle.std.specs.Prelude.{◌≡◌, ℕ};
 ghost use Rattle.x86_fields.specs.Sizes.{size_prefixes};
 ghost use Rattle.x86_operands.specs.Vocabulary.{Prefixes, is_memory};
-ghost use Rattle.x86_operands.specs.Encodings.{settled, size_bytes};
+ghost use Rattle.x86_operands.specs.Encodings.{resolved, size_bytes};
 ghost use Rattle.x86_operands.specs.Templates.{size_at};
 
 use crate::order::Order;
@@ -37,8 +37,8 @@ impl OperandEncoding {
     /// The operand under these prefixes. `num` is the number of the opcode byte, which `Z` has; an immediate whose size the
     /// prefixes choose becomes the one of that size.
     #[inline(always)]
-    pub fn settled(self, num: u8, prefixes: &Prefixes) -> OperandEncoding
-        ensures { result ≡ settled self num prefixes.now }
+    pub fn resolved(self, num: u8, prefixes: &Prefixes) -> OperandEncoding
+        ensures { result ≡ resolved self num prefixes.now }
     {
         let of_word = prefixes.operand_size() && !prefixes.has_w();
         match self {

@@ -12,8 +12,8 @@ use crate::names::{mnemonic, put_name, size_name};
 use crate::operands::put_operand;
 use x86_decode::Instruction;
 use x86_operands::Operand;
-use x86_streams::lines::cells::put;
-use x86_streams::lines::digits::{put_one, put_u8, put_u64};
+use x86_streams::lines::cells::{put, put_first};
+use x86_streams::lines::digits::{put_u8, put_u64};
 use x86_streams::lines::{Line, Place, Room};
 
 /// Writes an operand after a comma and a space.
@@ -116,6 +116,21 @@ fn put_large_size(cells: &mut [u8], at: usize, size: u8) -> usize
     put_u8(cells, at, size)
 }
 
+/// Each length of one digit between spaces, and a space more.
+static LENGTHS: [[u8; 4]; 10] = [
+    *b" 0  ", *b" 1  ", *b" 2  ", *b" 3  ", *b" 4  ", *b" 5  ", *b" 6  ", *b" 7  ", *b" 8  ",
+    *b" 9  ",
+];
+
+/// A length of one digit between spaces, and a space more.
+#[inline(always)]
+fn length_of_one_digit(n: u64) -> &'static [u8; 4]
+    requires { n < 10 }
+    ensures { take 3 result.now ≡ codes " " ++ decimal n ++ codes " " }
+{
+    &LENGTHS[n as usize]
+}
+
 /// Writes the length of an encoding between spaces.
 #[inline(always)]
 #[tactic(auto, using(itoa::proofs::Decimal::length_one))]
@@ -126,9 +141,7 @@ fn put_length(cells: &mut [u8], at: usize, n: u64) -> usize
     ensures short { result ≤ at + 22 }
 {
     if n < 10 {
-        let at = put(cells, at, b' ');
-        let at = put_one(cells, at, n);
-        put(cells, at, b' ')
+        put_first(cells, at, length_of_one_digit(n), 3)
     } else {
         put_long_length(cells, at, n)
     }
@@ -190,8 +203,8 @@ pub fn push_line<const N: usize>(line: &mut Room<N>, place: &Place, instruction:
     ensures text { line.new.items ≡ line.old.items ++ line_of place.now instruction.now }
     ensures short { array_vec_len line.new ≤ array_vec_len line.old + line_width }
 {
-    line.append(place.digits());
-    let at = line.len;
+    let digits = place.digits();
+    let at = put_first(&mut line.cells, line.len, &digits.cells, digits.len);
     let at = put_length(&mut line.cells, at, instruction.len().to_const());
     line.len = put_instruction(&mut line.cells, at, instruction);
 }

@@ -147,7 +147,11 @@ module _ (strict : Bool) (s : List ℕ) (i : Instruction) (f : Encodes R strict 
   pub operand_form : (k : ℕ) (raw : Raw) → HasRaw R strict f k raw → is_ip_relative raw ≡ false →
       HasOperandForm strict s f.reading (whole_in R strict true s i f) false
   operand_form k raw has differs = record {
-    operand = record { raw = raw; read = has.0; written = (and_parts (writes_modrm (plan_within R strict s f.reading (whole_in R strict true s i f))) _ (named k raw has)).0 };
+    operand = record {
+      raw = raw;
+      read = has.0;
+      written = (and_parts (writes_modrm (plan_within R strict s f.reading (whole_in R strict true s i f))) _ (named k raw has)).0;
+    };
     form = differs;
   }
 

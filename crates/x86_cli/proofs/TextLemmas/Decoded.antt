@@ -52,6 +52,6 @@ module _ (strict : Bool) (laws : DecoderLaws strict) where
   yields_refused (Some e) w s error answer bytes at = let h = at.1 e refl in grind arith
 
   pub yields_ended : (ended : Option Ending) (w s : List ℕ) (error : DecodeError) (e : Ending) → Err error ≡ answer_of strict s → s ≡ w →
-      IsAtRefusal (refusal.Ended e) error ended w → Yields ended w (Ended e)
+      IsAtRefusal refusal.Nothing error ended w → ended ≡ Some e → Yields ended w (Ended e)
   unfolding decoded_of
-  yields_ended ended w s error e answer bytes at = grind arith
+  yields_ended ended w s error e answer bytes at is = let h = at.1 e is in grind arith

@@ -28,13 +28,12 @@ Shows strict (Ended e) ended window = ended ≡ Some e
 
 -- What comes after these bytes, which begin with no instruction.
 abbrev pub IsAtRefusal : AtRefusal → DecodeError → Option Ending → List ℕ → Type 0
-IsAtRefusal refusal.Undecided error ended window = (ended ≡ None) × (error ≡ ExhaustedInput)
 IsAtRefusal refusal.Refused error ended window =
     (ended ≡ None → error ≢ ExhaustedInput) × ((e : Ending) → ended ≡ Some e → (0 < length window) × (decoded_at_end (Err error) e ≡ Refused error))
-IsAtRefusal (refusal.Ended e) error ended window = (ended ≡ Some e) × ((length window ≡ 0) ⊎ (decoded_at_end (Err error) e ≡ Ended e))
+IsAtRefusal refusal.Nothing error ended window =
+    (ended ≡ None → error ≡ ExhaustedInput) × ((e : Ending) → ended ≡ Some e → (length window ≡ 0) ⊎ (decoded_at_end (Err error) e ≡ Ended e))
 
 -- The same for a sweep, which a refusal doesn't end.
 abbrev pub IsAtCut : AtRefusal → DecodeError → Option Ending → List ℕ → Type 0
-IsAtCut refusal.Undecided error ended window = (ended ≡ None) × (error ≡ ExhaustedInput)
 IsAtCut refusal.Refused error ended window = (ended ≡ None → error ≢ ExhaustedInput) × ((e : Ending) → ended ≡ Some e → 0 < length window)
-IsAtCut (refusal.Ended e) error ended window = (ended ≡ Some e) × (length window ≡ 0)
+IsAtCut refusal.Nothing error ended window = (ended ≡ None → error ≡ ExhaustedInput) × ((e : Ending) → ended ≡ Some e → length window ≡ 0)

@@ -7,7 +7,7 @@ ghost use Rattle.x86_text.specs.Widths.{line_width};
 ghost use Rattle.x86_cli.specs.Listings.Closes.{Closes};
 ghost use Rattle.x86_cli.specs.Commands.Make.{generate, is_at_rip, is_absolute, answer_has, tally_of, made_listing};
 
-use crate::listings::listing::put_last;
+use crate::listings::listing::put_last_line;
 use crate::listings::status::{Finished, Status};
 use arrayvec::ArrayVec;
 use itoa::Buffer;
@@ -164,5 +164,5 @@ pub fn make<W, O: Output<W>>(count: u32, output: &O, writer: &mut W) -> Finished
     let tally = tally_of(count);
     let line = tally_line(count, &tally);
     let mut out = Gathered::new();
-    put_last(output, &mut out, writer, line, Status::Done)
+    put_last_line(output, &mut out, writer, line, Status::Done)
 }

@@ -85,7 +85,7 @@ pub fn close<W, O: Output<W>>(
 }
 
 /// Writes the last line of a listing, and sends all.
-pub fn put_last<W, O: Output<W>>(
+pub fn put_last_line<W, O: Output<W>>(
     output: &O,
     out: &mut Gathered,
     writer: &mut W,
@@ -122,15 +122,15 @@ pub fn end<W, O: Output<W>>(
         Ending::Bad(position) => {
             text.extend(b"text error at ");
             text.push_u64(position);
-            put_last(output, out, writer, text, Status::BadText)
+            put_last_line(output, out, writer, text, Status::BadText)
         }
         Ending::Large => {
             text.extend(b"text too long");
-            put_last(output, out, writer, text, Status::TooLarge)
+            put_last_line(output, out, writer, text, Status::TooLarge)
         }
         Ending::Fault => {
             text.extend(b"read fault");
-            put_last(output, out, writer, text, Status::ReadFault)
+            put_last_line(output, out, writer, text, Status::ReadFault)
         }
     }
 }
@@ -154,7 +154,7 @@ pub enum Entry {
 }
 
 /// What comes next in a listing, place by place, with room for `N` bytes in a line.
-pub trait Course<const N: usize, P: Counter> {
+pub trait LineSource<const N: usize, P: Counter> {
     /// The listing of a text from a place on.
     ghost lists: { Self → Bool → ℕ → Text → Listing };
 
@@ -189,7 +189,7 @@ pub struct UpToRefusal<L: Lines + Drop> {
     pub lines: L,
 }
 
-impl<L: Lines + Drop> Course<LINE_ROOM, Place> for UpToRefusal<L> {
+impl<L: Lines + Drop> LineSource<LINE_ROOM, Place> for UpToRefusal<L> {
     ghost lists = { λ s strict place text. listing_at strict (L.text s.lines strict) place text };
 
     ghost knows = { λ s strict place text. listing_at strict (L.text s.lines strict) place text };
@@ -224,9 +224,9 @@ impl<L: Lines + Drop> Course<LINE_ROOM, Place> for UpToRefusal<L> {
 
 /// Writes the listing of the reader's text. Each line is gathered as soon as it is decided. A read is made only where what
 /// was read decides no more, once all that was gathered is sent. `first` is the first place.
-pub fn list<const N: usize, P: Counter + Drop, C: Course<N, P>, E, O: Input<E> + Output<E>>(
+pub fn list<const N: usize, P: Counter + Drop, C: LineSource<N, P>, E, O: Input<E> + Output<E>>(
     decoder: &InstDecoder,
-    course: &C,
+    line_source: &C,
     first: P,
     max: u64,
     outside: &O,
@@ -234,12 +234,12 @@ pub fn list<const N: usize, P: Counter + Drop, C: Course<N, P>, E, O: Input<E> +
 ) -> Finished
     requires size { N ≤ 1024 }
     requires first { P.place first ≡ 0 }
-    requires base { P.base first ≡ C.base course.now }
+    requires base { P.base first ≡ C.base line_source.now }
     requires max { max < 2 ^ 62 }
     ensures { Performs O.reads O.writes O.flushes O.gathers (record {
       max = max;
-      known = C.knows course.now (is_strict decoder.now) 0;
-      lists = C.lists course.now (is_strict decoder.now) 0;
+      known = C.knows line_source.now (is_strict decoder.now) 0;
+      lists = C.lists line_source.now (is_strict decoder.now) 0;
     }) result streams.old streams.new }
 {
     let mut window = Window::new(max);
@@ -249,7 +249,7 @@ pub fn list<const N: usize, P: Counter + Drop, C: Course<N, P>, E, O: Input<E> +
     'lines: loop {
         window.take_known();
         let held = out.bytes.len();
-        match course.next(decoder, &window, &place, &mut inst, &mut out.bytes) {
+        match line_source.next(decoder, &window, &place, &mut inst, &mut out.bytes) {
             Entry::Line(length) => {
                 match end_line(outside, &mut out, streams, held) {
                     Ok(()) => {}
@@ -269,7 +269,7 @@ pub fn list<const N: usize, P: Counter + Drop, C: Course<N, P>, E, O: Input<E> +
             }
             Entry::Refused(error) => {
                 let text = refusal_of(place.place(), error);
-                return put_last(outside, &mut out, streams, text, Status::Refused);
+                return put_last_line(outside, &mut out, streams, text, Status::Refused);
             }
             Entry::Ended(ending) => return end(outside, &mut out, streams, ending),
         }

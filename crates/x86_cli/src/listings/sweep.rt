@@ -4,7 +4,7 @@ ghost use Rattle.x86_cli.specs.Listings.Sweep.{known_sweep_at, sweep_at};
 ghost use Rattle.x86_cli.specs.Text.Window.{IsAtCut};
 
 use crate::laws::decoder_laws;
-use crate::listings::listing::{Course, Entry, length_of};
+use crate::listings::listing::{Entry, LineSource, length_of};
 use crate::text::window::AtRefusal;
 use x86_decode::{InstDecoder, Instruction};
 use x86_fields::DecodeError;
@@ -22,12 +22,12 @@ pub fn shown_at(window: &Window, error: DecodeError) -> AtRefusal
 {
     match window.ended {
         None => match error {
-            DecodeError::ExhaustedInput => AtRefusal::Undecided,
+            DecodeError::ExhaustedInput => AtRefusal::Nothing,
             _ => AtRefusal::Refused,
         },
-        Some(ending) => {
+        Some(_) => {
             if window.bytes.is_empty() {
-                AtRefusal::Ended(ending)
+                AtRefusal::Nothing
             } else {
                 AtRefusal::Refused
             }
@@ -35,7 +35,7 @@ pub fn shown_at(window: &Window, error: DecodeError) -> AtRefusal
     }
 }
 
-impl Course<LINE_ROOM, Place> for PastRefusals {
+impl LineSource<LINE_ROOM, Place> for PastRefusals {
     ghost lists = { λ s strict place text. sweep_at strict place text };
 
     ghost knows = { λ s strict place text. known_sweep_at strict place text };
@@ -58,8 +58,10 @@ impl Course<LINE_ROOM, Place> for PastRefusals {
                 Entry::Line(length_of(inst))
             }
             Err(error) => match shown_at(window, error) {
-                AtRefusal::Undecided => Entry::Undecided,
-                AtRefusal::Ended(ending) => Entry::Ended(ending),
+                AtRefusal::Nothing => match window.ended {
+                    Some(ending) => Entry::Ended(ending),
+                    None => Entry::Undecided,
+                },
                 AtRefusal::Refused => {
                     push_refusal(held, place, error);
                     Entry::Line(1)

@@ -27,12 +27,10 @@ pub enum Decoded<I> {
 /// What comes where the bytes that are held begin with no instruction.
 #[derive(Drop)]
 pub enum AtRefusal {
-    /// More bytes decide that.
-    Undecided,
     /// The refusal.
     Refused,
-    /// The end of the text.
-    Ended(Ending),
+    /// The end of the text, if it has ended. Otherwise more bytes decide what comes.
+    Nothing,
 }
 
 /// What the window shows where its bytes begin with no instruction.
@@ -42,11 +40,11 @@ fn shown_at(window: &Window, error: DecodeError) -> AtRefusal
     ensures { IsAtRefusal result error window.now.ended window.now.bytes.items }
 {
     match (window.ended, error) {
-        (None, DecodeError::ExhaustedInput) => AtRefusal::Undecided,
+        (None, DecodeError::ExhaustedInput) => AtRefusal::Nothing,
         (None, _) => AtRefusal::Refused,
-        (Some(ending), _) if window.bytes.is_empty() => AtRefusal::Ended(ending),
+        (Some(_), _) if window.bytes.is_empty() => AtRefusal::Nothing,
         (Some(Ending::Clean), _) => AtRefusal::Refused,
-        (Some(ending), DecodeError::ExhaustedInput) => AtRefusal::Ended(ending),
+        (Some(_), DecodeError::ExhaustedInput) => AtRefusal::Nothing,
         (Some(_), _) => AtRefusal::Refused,
     }
 }
@@ -73,9 +71,11 @@ pub fn decode_next(
     match decoder.decode_slice_into(inst, window.bytes.as_slice()) {
         Ok(()) => Some(Decoded::Whole(())),
         Err(error) => match shown_at(window, error) {
-            AtRefusal::Undecided => None,
             AtRefusal::Refused => Some(Decoded::Refused(error)),
-            AtRefusal::Ended(ending) => Some(Decoded::Ended(ending)),
+            AtRefusal::Nothing => match window.ended {
+                Some(ending) => Some(Decoded::Ended(ending)),
+                None => None,
+            },
         },
     }
 }

@@ -18,7 +18,7 @@ use Rattle.x86_operands.specs.declared.plans.OperandEncoding.{OperandEncoding}
 use Rattle.x86_operands.specs.declared.plans.OperandEncoding.TheVariants as encoding
 use Rattle.x86_operands.specs.declared.rows.TemplateRow.{TemplateRow}
 use Rattle.x86_operands.specs.Columns.{choose, plan_of_row}
-use Rattle.x86_operands.specs.Encodings.{settled}
+use Rattle.x86_operands.specs.Encodings.{resolved}
 use Rattle.x86_operands.specs.Forms.{form_record, modrm_use, rows_use}
 use Rattle.x86_operands.specs.Operands.{is_memory_slot}
 use Rattle.x86_operands.specs.Pieces.{operand_from, operands_from, reading_from}
@@ -61,8 +61,8 @@ record AreRegisters (plan : Plan) : Type 0 where
   last : is_register plan.last ≡ true
   extra : is_register plan.extra ≡ true
 
-settled_is : (s : OperandEncoding) (n : ℕ) (p : Prefixes) → is_register (settled s n p) ≡ is_register s
-settled_is s n p = grind arith
+resolved_is : (s : OperandEncoding) (n : ℕ) (p : Prefixes) → is_register (resolved s n p) ≡ is_register s
+resolved_is s n p = grind arith
 
 rm_is : (w : Width) → is_register (rm_encoding w) ≡ true
 rm_is w = grind arith
@@ -78,7 +78,7 @@ row_has chosen row p m h =
     let t = chosen.template in
     let n = carried row.form in
     let parts = and_parts (is_register t.last) (is_register t.extra) h in
-    record { rm = rm_is t.rm; reg = reg_is t n; last = settled_is t.last n p ∙ parts.0; extra = settled_is t.extra n p ∙ parts.1 }
+    record { rm = rm_is t.rm; reg = reg_is t n; last = resolved_is t.last n p ∙ parts.0; extra = resolved_is t.extra n p ∙ parts.1 }
 
 rows_have_registers : (f : Form) → group_modrm f ≡ Registers → list_all has_registers (group_rows f) ≡ true
 unfolding group_rows
@@ -98,7 +98,8 @@ module _ (strict : Bool) (row : TableRow) (p : Prefixes) (m : ℕ) where
       AreRegisters ((if group then group_record strict row p else form_record row p).plan m)
   unfolding group_record group_plan form_record modrm_use
   by_kind true e = chosen_has (λ chosen. AreRegisters (plan_of_row chosen row p m)) has_registers row strict p m
-      (record { rm = refl; reg = refl; last = refl; extra = refl }) (λ chosen h there. row_has chosen row p m h) (group_rows row.form) (rows_have_registers row.form e)
+      (record { rm = refl; reg = refl; last = refl; extra = refl }) (λ chosen h there. row_has chosen row p m h) (group_rows row.form)
+      (rows_have_registers row.form e)
   by_kind false e = absurd (no_plain (form_rows row.form) e)
 
 -- ---- their slots

@@ -103,9 +103,13 @@ module _ (from to : Raw) where
   -- ---- the instruction
 
   -- what is at a place, where it is known whether that is below the count
-  at_place : (below : Bool) {l m : Operands} → Alike (IsSameOrShape from to) (unchanged refl) l m → (k : ℕ) → IsSameOrShape from to
-      (if below then slice_index_or l.slots k slots.Nothing else slots.Nothing, if below then slice_index_or l.operands k operands.Nothing else operands.Nothing)
-      (if below then slice_index_or m.slots k slots.Nothing else slots.Nothing, if below then slice_index_or m.operands k operands.Nothing else operands.Nothing)
+  at_place : (below : Bool) {l m : Operands} → Alike (IsSameOrShape from to) (unchanged refl) l m → (k : ℕ) → IsSameOrShape from to (
+    if below then slice_index_or l.slots k slots.Nothing else slots.Nothing,
+    if below then slice_index_or l.operands k operands.Nothing else operands.Nothing,
+  ) (
+    if below then slice_index_or m.slots k slots.Nothing else slots.Nothing,
+    if below then slice_index_or m.operands k operands.Nothing else operands.Nothing,
+  )
   at_place true h k = each_alike (IsSameOrShape from to) (unchanged refl) h k
   at_place false h k = unchanged refl
 
@@ -157,7 +161,8 @@ module _ {strict : Bool} {s : List ℕ} {a : Reading} {v : Encoding strict s a} 
   same_instruction : (i j : Places) (k l : ℕ) → IsSameButInMemory rel.address.from rel.address.to (instruction_of a i k) (instruction_of b j l)
   same_instruction i j k l = tails rel.address.from rel.address.to rel.address.same (Seen v) (Seen w) seen_is (Byte v)
       (Byte w) register_is v.row_spelled.tail_spelled w.row_spelled.tail_spelled i j k l plan_is
-      (row_has_memory strict v.row (Seen v) (Byte v) (spells v rel.address.old).0 (fields v rel.address.old) v.row_spelled.tail_spelled.accepted) rel.address.old rel.address.new
+      (row_has_memory strict v.row (Seen v) (Byte v) (spells v rel.address.old).0 (fields v rel.address.old) v.row_spelled.tail_spelled.accepted)
+      rel.address.old rel.address.new
       rel.parts.immediate rel.parts.suffix
 
 -- said of sentences

@@ -22,7 +22,7 @@ static PAIRS: [[u8; 2]; 100] = [
 
 /// The two digits of a number below 100.
 #[inline(always)]
-pub(crate) fn pair_of(n: u8) -> &'static [u8; 2]
+pub(crate) fn pair_of(n: u64) -> &'static [u8; 2]
     requires { n < 100 }
     ensures { result.now ≡ (48 + n / 10) ∷ (48 + n % 10) ∷ [] }
 {
@@ -90,7 +90,7 @@ fn put_last_two(cells: &mut [u8], at: usize, n: u64) -> usize
         take result cells.new ≡ before ++ decimal n }
     ensures place { result ≡ at + 2 }
 {
-    put_first(cells, at, pair_of((n % 100) as u8), 2)
+    put_first(cells, at, pair_of(n % 100), 2)
 }
 
 /// Writes the decimal of a number that has one digit.
@@ -115,7 +115,7 @@ fn put_pair(cells: &mut [u8], at: usize, n: u64) -> usize
     ensures text { take result cells.new ≡ take at cells.old ++ decimal n }
     ensures place { result ≡ at + length (decimal n) }
 {
-    put_first(cells, at, pair_of(n as u8), 2)
+    put_first(cells, at, pair_of(n), 2)
 }
 
 /// Writes the decimal of a number that has at most two digits.

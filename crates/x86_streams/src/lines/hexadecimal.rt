@@ -56,7 +56,7 @@ fn put_more_than_eight(cells: &mut [u8], at: usize, n: u64) -> usize
     put_eight(cells, at, (n % 4_294_967_296) as u32)
 }
 
-/// Writes a number of at most two digits, as most in a listing are.
+/// Writes a number of at most two digits.
 #[inline(always)]
 fn put_at_most_two(cells: &mut [u8], at: usize, byte: u8) -> usize
     requires { at + 2 ≤ length cells.old }

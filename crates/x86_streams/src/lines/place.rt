@@ -28,22 +28,23 @@ pub trait Counter {
 /// A place in an image, with its decimal. As the place increases, only the digits that change are written.
 #[derive(Drop)]
 pub struct Place {
-    number: u64,
-    digits: Room<32>,
-    /// How far the last two digits still count on, and 0 where there are fewer than three.
+    /// The place at which all digits are written again.
+    end: u64,
+    /// How far it is to there.
     spare: u64,
+    digits: Room<32>,
 }
 
 impl Model for Place {
-    ghost use Rattle.std.specs.Prelude.{ℕ, ◌≡◌, ◌≤◌, ◌<◌, ◌+◌, ◌%◌, decimal, length};
+    ghost use Rattle.std.specs.Prelude.{ℕ, ◌≡◌, ◌≤◌, ◌<◌, ◌+◌, ◌-◌, ◌%◌, decimal, length};
 
     ghost Value = { ℕ };
 
-    ghost view = { λ p. p.number };
+    ghost view = { λ p. p.end - p.spare };
 
-    ghost invariant = { λ p. (p.digits.items ≡ decimal p.number) ×
-        (0 < p.spare → (100 ≤ p.number) × (p.spare + p.number % 100 ≡ 100)) ×
-        (length p.digits.items ≤ 20) };
+    ghost invariant = { λ p. (p.digits.items ≡ decimal (p.end - p.spare)) ×
+        (0 < p.spare → (100 ≤ p.end - p.spare) × (p.spare + (p.end - p.spare) % 100 ≡ 100)) ×
+        (length p.digits.items ≤ 20) × (p.spare ≤ p.end) };
 }
 
 impl Place {
@@ -54,9 +55,9 @@ impl Place {
         let mut digits = Room::new();
         digits.push_u64(number);
         Place {
-            number,
-            digits,
+            end: number,
             spare: 0,
+            digits,
         }
     }
 
@@ -69,13 +70,19 @@ impl Place {
         &self.digits
     }
 
-    /// Goes to a place, whose digits are all written.
+    /// Goes on by so many bytes, and writes all digits. Below 100 the last two never change alone.
     #[inline(never)]
-    fn renew(&mut self, number: u64)
-        ensures { self.new ≡ number }
+    fn renew(&mut self, by: u64)
+        requires { self.old + by < 2 ^ 64 }
+        ensures { self.new ≡ self.old + by }
     {
-        self.number = number;
-        self.spare = if number < 100 { 0 } else { 100 - number % 100 };
+        let number = self.end - self.spare + by;
+        self.spare = if number < 100 || number > u64::MAX - 100 {
+            0
+        } else {
+            100 - number % 100
+        };
+        self.end = number + self.spare;
         self.digits.clear();
         self.digits.push_u64(number);
     }
@@ -88,17 +95,16 @@ impl Counter for Place {
 
     #[inline(always)]
     fn place(&self) -> u64 {
-        self.number
+        self.end - self.spare
     }
 
     #[inline(always)]
     fn advance(&mut self, by: u64) {
         if by < self.spare {
-            self.number += by;
             self.spare -= by;
-            self.digits.set_last_digits((100 - self.spare) as u8);
+            self.digits.set_last_digits(100 - self.spare);
         } else {
-            self.renew(self.number + by);
+            self.renew(by);
         }
     }
 }

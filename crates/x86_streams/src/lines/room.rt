@@ -74,13 +74,13 @@ impl<const N: usize> Room<N> {
 
     /// Writes the two digits of a number below 100 over the last two bytes.
     #[inline(always)]
-    pub fn set_last_digits(&mut self, n: u8)
+    pub fn set_last_digits(&mut self, n: u64)
         requires pair { n < 100 }
         requires some { 2 ≤ array_vec_len self.old }
         ensures { self.new.items ≡ take (array_vec_len self.old - 2) self.old.items ++
             (48 + n / 10) ∷ (48 + n % 10) ∷ [] }
     {
-        self.len = put_first(&mut self.cells, self.len - 2, pair_of(n), 2);
+        let _ = put_first(&mut self.cells, self.len - 2, pair_of(n), 2);
     }
 
     /// Writes the two hex digits of a byte over the last two bytes.
@@ -90,7 +90,7 @@ impl<const N: usize> Room<N> {
         ensures { self.new.items ≡ take (array_vec_len self.old - 2) self.old.items
             ++ encode_lower (byte ∷ []) }
     {
-        self.len = put_hex_pair(&mut self.cells, self.len - 2, byte);
+        let _ = put_hex_pair(&mut self.cells, self.len - 2, byte);
     }
 
     /// Appends the bytes of a room, all of whose cells are copied. Only rooms of a power of two, at most 64 bytes, can be

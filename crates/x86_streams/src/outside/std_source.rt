@@ -61,7 +61,7 @@ impl<R: Read + Drop> StdSource<R> {
     /// Reads on, where no byte of the buffer is left, and returns the first byte that was read.
     #[cold]
     #[inline(never)]
-    fn read_on<I: Input<R>>(&mut self, input: &I) -> Got
+    fn refill<I: Input<R>>(&mut self, input: &I) -> Got
         requires { self.old.position ≡ self.old.filled }
         ensures calls { ReturnsNext I.reads (source_bytes self.old) result (source_bytes self.new)
             self.old.reader self.new.reader }
@@ -89,7 +89,7 @@ impl<R: Read + Drop> StdSource<R> {
         ensures faults { CountsFailed result self.old.faults self.new.faults }
     {
         if self.position == self.filled {
-            return self.read_on(input);
+            return self.refill(input);
         }
         let byte = self.buffer[self.position];
         self.position += 1;

@@ -1,7 +1,7 @@
 //! Pairs of digits, read many at once.
 
 ghost use Rattle.std.specs.Prelude.{◌≡◌, ℕ, ◌+◌, ◌*◌, ◌%◌, ◌<◌, ◌≤◌, length, slice_index_or, take, List, Some, true};
-ghost use Rattle.x86_streams.specs.Text.{value_of};
+ghost use Rattle.x86_streams.specs.Text.{is_blank, value_of};
 ghost use Rattle.x86_streams.specs.Text.Spells.{Spells};
 
 use crate::text::kinds::{Kind, kind_of};
@@ -11,6 +11,9 @@ pub const BLOCK: usize = 16;
 
 /// How many digits a block has.
 const DIGITS: usize = 2 * BLOCK;
+
+/// How many bytes a block has with a blank between each two pairs.
+const SPACED: usize = 3 * BLOCK - 1;
 
 /// The fewest pairs that are read as a block.
 const RUN_MIN: usize = 8;
@@ -88,24 +91,75 @@ fn put_values(digits: &[u8; DIGITS], values: &mut [u8], count: usize)
     }
 }
 
-/// Reads the pairs at a position as one block, where enough of them are whole. It returns how many.
+/// Reads the pairs at a position as one block, where enough of them are whole. It returns how many, and the position
+/// after them.
 #[inline(always)]
-fn read_run(text: &[u8], at: usize, values: &mut [u8], count: usize) -> usize
+fn read_run(text: &[u8], at: usize, values: &mut [u8], count: usize) -> (usize, usize)
+    requires inside { at + 32 ≤ length text.now }
     requires room { count + 16 ≤ length values.old }
     requires spells { Spells text.now at (take count values.old) }
-    ensures few { result ≤ 16 }
-    ensures spells { Spells text.now (at + 2 * result) (take (count + result) values.new) }
+    ensures few { result.0 ≤ 16 }
+    ensures spells { Spells text.now result.1 (take (count + result.0) values.new) }
 {
-    if text.len() - at < DIGITS {
-        return 0;
-    }
     let digits = digits_at(text, at);
     let run = run_of(&digits);
     if run < RUN_MIN {
-        return 0;
+        return (0, at);
     }
     put_values(&digits, values, count);
-    run
+    (run, at + 2 * run)
+}
+
+/// The bytes of 16 pairs from a position on, between which there is one byte.
+#[inline(always)]
+#[tactic(auto, using(crate::proofs::TextLemmas::Spells::more_pair))]
+fn spaced_at(text: &[u8], at: usize) -> [u8; DIGITS]
+    requires { at + 47 ≤ length text.now }
+    ensures { (k : ℕ) → k < 16 →
+        (slice_index_or result (2 * k) 0 ≡ slice_index_or text.now (at + 3 * k) 0)
+        × (slice_index_or result (2 * k + 1) 0 ≡ slice_index_or text.now (at + 3 * k + 1) 0) }
+{
+    let mut pairs = [0; DIGITS];
+    for i in 0..BLOCK {
+        pairs[2 * i] = text[at + 3 * i];
+        pairs[2 * i + 1] = text[at + 3 * i + 1];
+    }
+    pairs
+}
+
+/// Whether the bytes between 16 pairs are blanks.
+#[inline(always)]
+fn are_spaced(text: &[u8], at: usize) -> bool
+    requires { at + 47 ≤ length text.now }
+    ensures { result ≡ true → (k : ℕ) → k < 15 →
+        is_blank (slice_index_or text.now (at + 3 * k + 2) 0) ≡ true }
+{
+    for i in 0..BLOCK - 1 {
+        if !matches!(kind_of(text[at + 3 * i + 2]), Kind::Blank) {
+            return false;
+        }
+    }
+    true
+}
+
+/// Reads 16 pairs with a blank between each two as one block, where all are whole. It returns as `read_run`.
+#[inline(always)]
+fn read_spaced(text: &[u8], at: usize, values: &mut [u8], count: usize) -> (usize, usize)
+    requires inside { at + 47 ≤ length text.now }
+    requires room { count + 16 ≤ length values.old }
+    requires spells { Spells text.now at (take count values.old) }
+    ensures few { result.0 ≤ 16 }
+    ensures spells { Spells text.now result.1 (take (count + result.0) values.new) }
+{
+    if !are_spaced(text, at) {
+        return (0, at);
+    }
+    let digits = digits_at(&spaced_at(text, at), 0);
+    if !are_digits(&digits) {
+        return (0, at);
+    }
+    put_values(&digits, values, count);
+    (BLOCK, at + SPACED)
 }
 
 /// The position after the blanks at a position.
@@ -142,7 +196,7 @@ fn after_blank(text: &[u8], at: usize) -> usize
 
 /// Reads pairs from a position on, and the blanks between them, up to the end of the line, at most 48 of them.
 /// It returns how many there are then, and the position.
-#[inline(always)]
+#[inline(never)]
 fn read_line(text: &[u8], from: usize, values: &mut [u8], before: usize) -> (usize, usize)
     requires room { before + 48 ≤ length values.old }
     requires spells { Spells text.now from (take before values.old) }
@@ -182,9 +236,16 @@ pub fn read_more(text: &[u8], from: usize, values: &mut [u8], count: usize) -> (
     ensures spells { Spells text.now result.1 (take result.0 values.new) }
 {
     let at = after_blanks(text, from);
-    let run = read_run(text, at, values, count);
-    if run == 0 {
+    if text.len() - at < SPACED {
         return read_line(text, at, values, count);
     }
-    (count + run, at + 2 * run)
+    let (run, next) = if text[at + 2] == b' ' {
+        read_spaced(text, at, values, count)
+    } else {
+        read_run(text, at, values, count)
+    };
+    if run == 0 {
+        return read_line(text, next, values, count);
+    }
+    (count + run, next)
 }

@@ -36,18 +36,22 @@ impl Window {
         }
     }
 
-    /// Takes bytes of the image from what was read, many at once.
+    /// Takes bytes of the image from what was read, many at once, unless the text has ended.
     #[cold]
     #[inline(never)]
     fn take_many(&mut self)
-        requires ended { self.old.ended ≡ None }
-        requires few { length self.old.bytes.items < instruction_max }
+        requires { length self.old.bytes.items < instruction_max }
         ensures takes { TakesBytes self.old.ended self.old.bytes.items self.old.text
             self.new.bytes.items self.new.text }
         ensures ended { self.new.ended ≡ self.old.ended }
     {
-        let taken = self.bytes.read(self.text.within());
-        self.text.advance_by(taken);
+        match self.ended {
+            Some(_) => {}
+            None => {
+                let taken = self.bytes.read(self.text.within());
+                self.text.advance_by(taken);
+            }
+        }
     }
 
     /// Takes bytes of the image from what was read, where there are fewer than an instruction may have. Nothing is
@@ -58,7 +62,7 @@ impl Window {
             self.new.bytes.items self.new.text }
         ensures ended { self.new.ended ≡ self.old.ended }
     {
-        if !self.bytes.is_full() && self.ended.is_none() {
+        if !self.bytes.is_full() {
             self.take_many();
         }
     }

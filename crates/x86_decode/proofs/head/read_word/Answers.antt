@@ -3,9 +3,9 @@ use Rattle.x86_fields.specs.Steps.{outcome, then_from}
 use Rattle.x86_forms.specs.Words.{rows_of}
 use Rattle.x86_forms.specs.declared.Map.TheVariants.{One}
 use Rattle.x86_decode.specs.Head.{seen_by}
-use Rattle.x86_decode.specs.Lead.{lead_of}
+use Rattle.x86_decode.specs.ByteClass.{byte_class}
 use Rattle.x86_decode.specs.Walk.{found_word}
-use Rattle.x86_decode.proofs.LeadLemmas.{is_plain, plain_not}
+use Rattle.x86_decode.proofs.ByteClassLemmas.{is_plain, plain_not}
 use Rattle.x86_decode.proofs.WordWalk.{found_vex, found_plain, found_escaped}
 use Rattle.x86_decode.proofs.head.read_word.Goals as goal
 
@@ -30,8 +30,8 @@ returns-in-Vex g c =
 
 pub returns-in_default : goal.returns-in_default
 returns-in_default g c =
-    let plain : is_plain (lead_of c.args.byte) ≡ true = ap is_plain (sym c.lead_of.ensures)
-    ∙ plain_not c.lead_of.result c.in_default.not-Escape c.in_default.not-Vex in
+    let plain : is_plain (byte_class c.args.byte) ≡ true = ap is_plain (sym c.byte_class.ensures)
+    ∙ plain_not c.byte_class.result c.in_default.not-Escape c.in_default.not-Vex in
     ap (λ w. found_word c.args.prefixes.now w (g.T.Reader.state c.args.reader.now))
     (c.word.ensures ∙ ap (λ k. g.W.Words.word c.args.rows.now One k c.args.byte) c.column_of-in_default.ensures)
     ∙ found_plain (rows_of (g.W.Words.word c.args.rows.now)) c.args.prefixes.now c.args.byte (g.T.Reader.state c.args.reader.now) plain

@@ -71,7 +71,7 @@ pub returns-in-Refused : goal.returns-in-Refused
 returns-in-Refused g c =
     let s = live_take _ _ _ _ _ _ _ _ _ _ _ _ _ _ _ c.lines.invariant.live _ _ _ c.take_known.ensures.ended c.take_known.ensures.takes in
     live_closes _ _ _ _ _ _ _ _ _ _ _ _ _ _ _ s _ _ _ c.in-Refused.ensures.next.2
-    (rw (c.in-Refused.ensures.next.1, c.refusal_of-text.ensures.text, c.place.ensures) at c.put_last.ensures)
+    (rw (c.in-Refused.ensures.next.1, c.refusal_of-text.ensures.text, c.place.ensures) at c.put_last_line.ensures)
 
 pub returns-in-Ended : goal.returns-in-Ended
 returns-in-Ended g c =

@@ -21,7 +21,7 @@ returns-in-Refused-clause-shows c =
     yields_shows _ (c.decoder_laws.ensures _) _ _ _
     (yields_refused _ (c.decoder_laws.ensures _) _ _ _ _ c.in-Err.ensures.value c.as_slice.ensures c.in-Refused.ensures)
 
-pub returns-in-Ended-clause-rest : goal.returns-in-Ended-clause-rest
-returns-in-Ended-clause-rest c =
+pub returns-in-Some-clause-rest : goal.returns-in-Some-clause-rest
+returns-in-Some-clause-rest c =
     yields_rest _ (c.decoder_laws.ensures _) _ _ _
-    (yields_ended _ (c.decoder_laws.ensures _) _ _ _ _ _ c.in-Err.ensures.value c.as_slice.ensures c.in-Ended.ensures) _ _
+    (yields_ended _ (c.decoder_laws.ensures _) _ _ _ _ _ c.in-Err.ensures.value c.as_slice.ensures c.in-Nothing.ensures c.in-Some.is) _ _

@@ -29,7 +29,7 @@ module _ (w : List ℕ) (t t' : TextPosition) (n : ℕ) (position : t'.position 
         turns = rw brings.items (simp length-append (omega (arith, spells.pairs, ap length unread, length-drop n t.unread)));
       }
 
-pub returns-clause-takes : goal.returns-clause-takes
-returns-clause-takes c =
+pub returns-in-None-clause-takes : goal.returns-in-None-clause-takes
+returns-in-None-clause-takes c =
     let moved = c.advance_by.ensures in
-    rw c.requires.ended (takes_bytes _ _ _ c.read-taken.result moved.position moved.room moved.unread _ (rw c.within.ensures at c.read-taken.ensures))
+    rw c.in-None.is (takes_bytes _ _ _ c.read-taken.result moved.position moved.room moved.unread _ (rw c.within.ensures at c.read-taken.ensures))

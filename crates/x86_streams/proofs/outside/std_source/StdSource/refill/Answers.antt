@@ -1,5 +1,5 @@
 use Rattle.std.proofs.Common.{◌≡◌, ◌<◌, ◌≤◌, ◌-◌, ℕ, suc, List, [], ◌∷◌, take, length, slice_range, slice_index_or, refl, arith, drop-cons}
-use Rattle.x86_streams.proofs.outside.std_source.StdSource.read_on.Goals as goal
+use Rattle.x86_streams.proofs.outside.std_source.StdSource.refill.Goals as goal
 
 none : (buffer : List ℕ) (position filled : ℕ) → position ≡ filled → slice_range buffer position filled ≡ []
 none buffer position filled is = let zero : filled - position ≡ 0 = omega arith in rw zero refl

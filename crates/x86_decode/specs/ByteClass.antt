@@ -2,12 +2,12 @@
 use Rattle.std.specs.Prelude.{ℕ, ◌==◌, if◌then◌else◌, List, map}
 use Rattle.std.specs.List.{range_with_len}
 use Rattle.x86_fields.specs.Run.{is_legacy, is_rex}
-use Rattle.x86_decode.specs.declared.head.Lead.{Lead}
-use Rattle.x86_decode.specs.declared.head.Lead.TheVariants.{Opcode, Legacy, Rex, Escape, Vex}
+use Rattle.x86_decode.specs.declared.head.ByteClass.{ByteClass}
+use Rattle.x86_decode.specs.declared.head.ByteClass.TheVariants.{Opcode, Legacy, Rex, Escape, Vex}
 use Rattle.x86_decode.specs.Head.{is_vex}
 
-abbrev pub lead_of : ℕ → Lead
-lead_of b =
+abbrev pub byte_class : ℕ → ByteClass
+byte_class b =
     if is_vex b then Vex
     else (if b == 0x0f then Escape
     else (if is_legacy b then Legacy
@@ -15,5 +15,5 @@ lead_of b =
     else Opcode)))
 
 -- that of each byte
-unfoldable pub leads : List Lead
-leads = map lead_of (range_with_len 0 256)
+unfoldable pub byte_classes : List ByteClass
+byte_classes = map byte_class (range_with_len 0 256)

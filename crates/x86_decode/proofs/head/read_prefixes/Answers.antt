@@ -2,7 +2,7 @@ use Rattle.std.proofs.Common.{rules, ◌≡◌, ◌++◌, Err, ap, ◌∙◌}
 use Rattle.x86_fields.specs.declared.errors.DecodeError.TheVariants.{ExhaustedInput}
 use Rattle.x86_fields.specs.Steps.{pure, then_from}
 use Rattle.x86_decode.proofs.HeadWalk.{byte_is, none_is, stops, lacks, walk_begins, walk_goes, gets_shorter}
-use Rattle.x86_decode.proofs.head.read_on.Goals as goal
+use Rattle.x86_decode.proofs.head.read_prefixes.Goals as goal
 
 pub run-init : goal.run-init
 run-init g c = walk_begins (g.T.Reader.state c.args.reader.now) c.args.prefixes.now

@@ -6,7 +6,7 @@ use Rattle.x86_objdump.specs.Listing.{is_open_by}
 use Rattle.x86_objdump.specs.Vectors.{vector_of, once_ended}
 use Rattle.x86_objdump.proofs.ListingLemmas.{entry_line, entry_ended, entry_undecided, refused_some, vector_line, bad_line, cut_undecided}
 use Rattle.x86_objdump.proofs.ListingLemmas.{whole_within, open_exhausted}
-use Rattle.x86_objdump.proofs.listing.ShowAtCourseSHOWN_ROOMAddress.next.Goals as goal
+use Rattle.x86_objdump.proofs.listing.ShowAtLineSourceSHOWN_ROOMAddress.next.Goals as goal
 
 pub returns-in-Ok-clause-next : goal.returns-in-Ok-clause-next
 returns-in-Ok-clause-next c =
@@ -22,24 +22,24 @@ returns-in-Ok-clause-next c =
           _ _ (ap entry.Line c.length_of-length.ensures) refl,
     )
 
-pub returns-in-Undecided-clause-next : goal.returns-in-Undecided-clause-next
-returns-in-Undecided-clause-next c =
+pub returns-in-None-clause-next : goal.returns-in-None-clause-next
+returns-in-None-clause-next c =
     let here = sym (c.in-Err.ensures.value ∙ ap (answer_of c.args.decoder.now.strict) c.as_slice-bytes.ensures) in
-    let more = ap (λ e. is_open_by (Err e) (vector_of c.args.window.now.bytes.items)) c.in-Undecided.ensures.1 in (
+    let more = ap (λ e. is_open_by (Err e) (vector_of c.args.window.now.bytes.items)) (c.in-Nothing.ensures.0 c.in-None.is) in (
       [],
       refl,
       entry_undecided c.args.decoder.now.strict c.args.self.now.base
           (c.decoder_laws.ensures _) c.args.window.now.ended c.args.place.now.place [] c.args.window.now.bytes.items
-          c.args.window.now.text.position c.args.window.now.text.room (Err c.in-Err.error) c.in-Undecided.ensures.0 here
+          c.args.window.now.text.position c.args.window.now.text.room (Err c.in-Err.error) c.in-None.is here
           (more ∙ open_exhausted (vector_of c.args.window.now.bytes.items)),
     )
 
-pub returns-in-Ended-clause-next : goal.returns-in-Ended-clause-next
-returns-in-Ended-clause-next c = (
+pub returns-in-Some-clause-next : goal.returns-in-Some-clause-next
+returns-in-Some-clause-next c = (
   [],
   refl,
   entry_ended c.args.decoder.now.strict c.args.self.now.base c.args.window.now.ended c.args.place.now.place []
-      c.args.window.now.bytes.items c.args.window.now.text.position c.args.window.now.text.room _ c.in-Ended.ensures.0 c.in-Ended.ensures.1,
+      c.args.window.now.bytes.items c.args.window.now.text.position c.args.window.now.text.room _ c.in-Some.is (c.in-Nothing.ensures.1 _ c.in-Some.is),
 )
 
 pub slice_bounds-push_vector-end : goal.slice_bounds-push_vector-end

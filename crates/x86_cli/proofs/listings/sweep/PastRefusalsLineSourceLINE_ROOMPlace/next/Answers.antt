@@ -1,7 +1,7 @@
 use Rattle.std.proofs.Common.{[], Ok, Err, ap, refl}
 use Rattle.x86_cli.specs.declared.listings.listing.Entry.TheVariants as entry
 use Rattle.x86_cli.proofs.ListingLemmas.Sweep.{sweep_end, sweep_line, sweep_undecided, some_bytes, some_refused}
-use Rattle.x86_cli.proofs.listings.sweep.PastRefusalsCourseLINE_ROOMPlace.next.Goals as goal
+use Rattle.x86_cli.proofs.listings.sweep.PastRefusalsLineSourceLINE_ROOMPlace.next.Goals as goal
 
 pub returns-in-Ok-clause-next : goal.returns-in-Ok-clause-next
 returns-in-Ok-clause-next c = (
@@ -21,19 +21,19 @@ returns-in-Refused-clause-next c = (
       c.in-Err.ensures.value c.as_slice.ensures _ _ refl refl,
 )
 
-pub returns-in-Undecided-clause-next : goal.returns-in-Undecided-clause-next
-returns-in-Undecided-clause-next c = (
+pub returns-in-None-clause-next : goal.returns-in-None-clause-next
+returns-in-None-clause-next c = (
   [],
   refl,
   sweep_undecided c.args.decoder.now.strict (c.decoder_laws.ensures _) c.args.window.now.ended c.args.place.now []
-      c.args.window.now.bytes.items _ c.args.window.now.text.position c.args.window.now.text.room (Err c.in-Err.error) c.in-Undecided.ensures.0
-      (ap Err c.in-Undecided.ensures.1) c.in-Err.ensures.value c.as_slice.ensures,
+      c.args.window.now.bytes.items _ c.args.window.now.text.position c.args.window.now.text.room (Err c.in-Err.error) c.in-None.is
+      (ap Err (c.in-Nothing.ensures.0 c.in-None.is)) c.in-Err.ensures.value c.as_slice.ensures,
 )
 
-pub returns-in-Ended-clause-next : goal.returns-in-Ended-clause-next
-returns-in-Ended-clause-next c = (
+pub returns-in-Some-clause-next : goal.returns-in-Some-clause-next
+returns-in-Some-clause-next c = (
   [],
   refl,
   sweep_end c.args.decoder.now.strict c.args.window.now.ended c.args.place.now [] c.args.window.now.bytes.items
-      c.args.window.now.text.position c.args.window.now.text.room _ c.in-Ended.ensures.0 c.in-Ended.ensures.1,
+      c.args.window.now.text.position c.args.window.now.text.room _ c.in-Some.is (c.in-Nothing.ensures.1 _ c.in-Some.is),
 )

@@ -1,7 +1,7 @@
 use Rattle.std.proofs.Common.{[], None, refl}
 use Rattle.x86_cli.proofs.TextLemmas.Decoded.{shown_answer}
 use Rattle.x86_cli.proofs.ListingLemmas.NextEntry.{entry_line, entry_ended, entry_refused, entry_undecided}
-use Rattle.x86_cli.proofs.listings.listing.UpToRefusalCourseLINE_ROOMPlace.next.Goals as goal
+use Rattle.x86_cli.proofs.listings.listing.UpToRefusalLineSourceLINE_ROOMPlace.next.Goals as goal
 
 pub returns-in-Some-Whole-clause-next : goal.returns-in-Some-Whole-clause-next
 returns-in-Some-Whole-clause-next g c =
