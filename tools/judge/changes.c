@@ -1,4 +1,4 @@
-/* Changes to a reading, as the tables of rules.c write them. */
+/* Changes to a reading, as the tables of reasons.c write them. */
 #include "judge.h"
 #include <err.h>
 #include <stdio.h>

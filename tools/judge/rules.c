@@ -7,107 +7,39 @@
 
 enum { AT_ONE = 24 };
 
-/* One opcode byte of a row. */
+/* An opcode byte of a row, or a range of them. */
 struct where {
     struct rule *rule;
-    unsigned columns, regs;      /* bits; no column means all */
-    int form;                    /* 'r', 'm' or 0 */
-    int modrm;                   /* or -1 */
-    int prefixes[4];             /* 66, 67, W, R: 1 where it must be there, -1 where it must not, 0 where it may */
-    bool rm0, any;
+    int table, map, first, last;
+    unsigned columns, needs, forbids;    /* bits: its columns; the prefixes that must be there, and those that must not */
+    unsigned long long modrms[4];        /* bits */
 };
 
-/* Of the bytes of a map, up to one without a rule. */
-typedef struct where table[MAPS][256][AT_ONE + 1];
 enum { REFUSED, OTHERWISE, CHANGED, TABLES };
 static struct rule *const rules[] = {refused, read_otherwise, changed};
-static table tables[TABLES];
-
-static void add(struct where *at, struct where where)
-{
-    int count = 0;
-    while (at[count].rule != NULL) count++;
-    if (count == AT_ONE) errx(2, "too many reasons at the opcode of: %s", where.rule->rows);
-    at[count] = where;
-}
-
-static void read_opcodes(struct where (*at)[AT_ONE + 1], const char *word, struct where where)
-{
-    char *rest;
-    int from = (int)strtol(word, &rest, 16), to = from;
-    if (*rest == '-') to = (int)strtol(rest + 1, &rest, 16);
-    if (*rest == '=') where.modrm = (int)strtol(rest + 1, &rest, 16);
-    if (*rest == '/') {
-        where.regs = 0;
-        for (rest++; *rest >= '0' && *rest <= '7'; rest++) where.regs |= 1u << (*rest - '0');
-    }
-    if (*rest == 'r' || *rest == 'm') where.form = *rest++;
-    if (*rest != '\0') errx(2, "not an opcode: %s", word);
-    for (int opcode = from; opcode <= to; opcode++) add(at[opcode], where);
-}
-
-/* The place of a word among four, or 4. */
-static int place_of(const char *word, const char *const words[4])
-{
-    int at = 0;
-    while (at < 4 && strcmp(word, words[at]) != 0) at++;
-    return at;
-}
-
-/* Reads a word that isn't a map or an opcode. */
-static bool read_condition(const char *word, struct where *where)
-{
-    static const char *const columns[] = {"NP", "66", "F3", "F2"}, *const prefixes[] = {"66", "67", "W", "R"};
-    int column = place_of(word, columns), prefix = place_of(word + 1, prefixes);
-    if (column < 4) where->columns |= 1u << column;
-    else if (strcmp(word, "rm0") == 0) where->rm0 = true;
-    else if (strcmp(word, "+any") == 0) where->any = true;
-    else if (prefix < 4 && (*word == '+' || *word == '-')) where->prefixes[prefix] = *word == '+' ? 1 : -1;
-    else return false;
-    return true;
-}
-
-static void read_rule(table *table, struct rule *rule)
-{
-    static const char *const maps[] = {"0:", "0F:", "0F38:", "0F3A:"};
-    char text[512], *rest = text, *words;
-    snprintf(text, sizeof text, "%s", rule->rows);
-    while ((words = strtok_r(rest, ";", &rest)) != NULL) {
-        struct where where = {.rule = rule, .regs = 0xff, .modrm = -1};
-        int map = 4;
-        for (char *word; (word = strtok_r(words, " ", &words)) != NULL;) {
-            int named = place_of(word, maps);
-            if (named < 4) map = named;
-            else if (map < 4) read_opcodes((*table)[map], word, where);
-            else if (!read_condition(word, &where)) errx(2, "no such word: %s", word);
-        }
-    }
-}
-
-static bool holds_of_modrm(const struct where *where, int modrm)
-{
-    if (where->regs == 0xff && !where->form && where->modrm < 0 && !where->rm0) return true;
-    return modrm >= 0 && (where->modrm < 0 || modrm == where->modrm) && (where->regs >> (modrm >> 3 & 7) & 1)
-        && (!where->form || (where->form == 'r') == (modrm >> 6 == 3)) && (!where->rm0 || (modrm & 7) == 0);
-}
+/* Those of all rows, as rows.py writes them, and those of each opcode byte, up to NULL. */
+static const struct where rows[] = {
+#include "rows.h"
+};
+static const struct where *tables[TABLES][MAPS][256][AT_ONE + 1];
 
 static bool holds(const struct where *where, const struct code *code)
 {
-    const bool prefixes[] = {code->p66, code->p67, has_w(code), code->rex & 4};
-    if (where->columns && !(where->columns >> code->column & 1)) return false;
-    for (int k = 0; k < 4; k++)
-        if (where->prefixes[k] && (where->prefixes[k] > 0) != prefixes[k]) return false;
-    if (where->any && !(code->p66 || code->p67 || code->lock || code->segment || code->rex)) return false;
-    return holds_of_modrm(where, code->modrm);
+    const bool is_any = code->p66 || code->p67 || code->lock || code->segment || code->rex;
+    const unsigned has = code->p66 | code->p67 << 1 | has_w(code) << 2 | (code->rex >> 2 & 1) << 3 | is_any << 4;
+    const unsigned long long *modrms = where->modrms;
+    if (!(where->columns >> code->column & 1) || (where->needs & ~has) || (where->forbids & has)) return false;
+    if (code->modrm < 0) return (modrms[0] & modrms[1] & modrms[2] & modrms[3]) == ~0ull;
+    return modrms[code->modrm >> 6] >> (code->modrm & 63) & 1;
 }
 
 /* The first rule of a table that holds, or NULL. */
 static struct rule *first(int number, const struct code *code)
 {
     if (code->opcode < 0) return NULL;
-    const struct where *at = tables[number][code->map][code->opcode];
-    while (at->rule != NULL && !holds(at, code)) at++;
-    return at->rule;
+    const struct where **at = tables[number][code->map][code->opcode];
+    while (*at != NULL && !holds(*at, code)) at++;
+    return *at != NULL ? (*at)->rule : NULL;
 }
 
 /* The code as which a row is read. */
@@ -138,12 +70,12 @@ static bool read_other(const ZydisDecoder *decoder, const struct code *code, con
 static void apply_changes(const struct code *code, struct reading *reading)
 {
     char before[512], after[512];
-    for (const struct where *at = tables[CHANGED][code->map][code->opcode]; at->rule != NULL; at++) {
-        if (!holds(at, code)) continue;
+    for (const struct where **at = tables[CHANGED][code->map][code->opcode]; *at != NULL; at++) {
+        if (!holds(*at, code)) continue;
         reading_text(0, reading, before, sizeof before);
-        change(code, reading, at->rule->words);
+        change(code, reading, (*at)->rule->words);
         reading_text(0, reading, after, sizeof after);
-        if (strcmp(before, after) != 0) at->rule->count++;
+        if (strcmp(before, after) != 0) (*at)->rule->count++;
     }
 }
 
@@ -229,8 +161,14 @@ void expect(const ZydisDecoder *decoder, const struct code *code, struct reading
 
 void prepare_rules(void)
 {
-    for (int k = 0; k < TABLES; k++)
-        for (struct rule *rule = rules[k]; rule->reason != NULL; rule++) read_rule(&tables[k], rule);
+    for (size_t k = 0; k < sizeof rows / sizeof *rows; k++)
+        for (int opcode = rows[k].first; opcode <= rows[k].last; opcode++) {
+            const struct where **at = tables[rows[k].table][rows[k].map][opcode];
+            int count = 0;
+            while (at[count] != NULL) count++;
+            if (count == AT_ONE) errx(2, "too many reasons at the opcode of: %s", rows[k].rule->rows);
+            at[count] = &rows[k];
+        }
 }
 
 /* A line for each rule that changed something: `reason COUNT REASON`, with a tab between. */
