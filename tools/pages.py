@@ -25,8 +25,8 @@ Figures of a page that are older than the code that they measure are named.
 
 Counts of rows, names, forms, C functions and worked encodings on README.md and the pages of `counts` are those of the sources.
 
-Reasons of tools/compare: those of tools/judge/reasons.c are the rows of their section of docs/DIFFERENCES.md. The modules of lemmas in
-docs/DECISIONS.md are those that proofs of x86_decode import.
+Reasons of tools/compare: those of tools/judge/reasons.c are the rows of their section of docs/DIFFERENCES.md, and those of tools/judge/listing.py of
+docs/USAGE.md. The modules of lemmas in docs/DECISIONS.md are those that proofs of x86_decode import.
 """
 
 import os
@@ -39,10 +39,12 @@ import textwrap
 from pathlib import Path
 
 sys.dont_write_bytecode = True
+sys.path.append(str(Path(__file__).parent / "judge"))
+import listing
 import recipes
 import tables
 from sources import CODE as CODE_PATHS
-from sources import TOP, anchor, built, git, packages, section, source_texts, unlike_rows, worked_lines
+from sources import TOP, anchor, built, git, packages, section, source_texts, worked_lines
 from sources import reasons as reasons_of_zydis
 
 PROGRAM, SHOW = built("x86", "PROGRAM"), built("x86_show", "SHOW")
@@ -255,10 +257,10 @@ def paths(page):
     return [f"no file is {name}" for name in dict.fromkeys(lost)]
 
 
-def reasons(page):
-    """The reasons of tools/compare, and the rows of their section, that one of the two alone has."""
-    unlike = unlike_rows(reasons_of_zydis(), page, "Other answers than zydis")
-    return [f"a reason of tools/judge/reasons.c without a row, or a row without one: {name}" for name in unlike]
+def reasons(page, heading, names):
+    """The reasons of a judge of tools/compare, and the rows of their section, that one of the two alone has."""
+    rows = re.findall(r"^\| (?!reason )([^|-][^|]*?) \|", section((TOP / page).read_text(), heading), re.M)
+    return [f"a reason of tools/judge without a row, or a row without one: {name}" for name in sorted({*rows} ^ {*names})]
 
 
 def lemmas(page):
@@ -299,7 +301,9 @@ def name_old_figures(page):
 
 def read(readmes):
     """Reads the pages, and answers how much in them isn't so."""
-    checks = [(guide, "docs/GUIDE.md", CODE, True), (guide, "README.md", CODE), (reasons, "docs/DIFFERENCES.md"), (lemmas, "docs/DECISIONS.md")]
+    checks = [(guide, "docs/GUIDE.md", CODE, True), (guide, "README.md", CODE), (lemmas, "docs/DECISIONS.md")]
+    checks += [(reasons, "docs/DIFFERENCES.md", "Other answers than zydis", reasons_of_zydis())]
+    checks += [(reasons, "docs/USAGE.md", "The listing for people", listing.REASONS)]
     checks += [(quotes, page) for page in QUOTING] + [(crate, page) for page in readmes] + [(links, page) for page in LINKING]
     checks += [(check, page) for page in ["README.md", *NAMING] for check in (paths, counts)] + [(paths, "CONTRIBUTING.md")]
     checks += [(counts, page) for page in readmes if (TOP / page).exists()]

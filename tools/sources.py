@@ -131,11 +131,6 @@ def reasons():
     return dict.fromkeys(re.findall(r'^    \{"([^"]+)", "', (TOP / "tools" / "judge" / "reasons.c").read_text(), re.M))
 
 
-def unlike_rows(names, page, heading):
-    """The names that these alone have, or the first cells of the table below a heading of a page alone, without the table's head."""
-    return {*names} ^ {*re.findall(r"^\| (?!reason )([^|-][^|]*?) \|", section((TOP / page).read_text(), heading), re.M)}
-
-
 def indent(line):
     return len(line) - len(line.lstrip(" "))
 
