@@ -1,6 +1,6 @@
 -- What a record says of a chain of calls.
-use Rattle.std.proofs.Common.{◌≡◌, ℕ, zero, suc, List, [], ◌∷◌, ◌++◌, Result, Ok, Err, refl, ap, ◌∙◌, sym, append_assoc, append-nil}
-use Rattle.std.specs.Prelude.{Bool, false, replicate, ⊤}
+use Rattle.std.proofs.Common.{◌≡◌, ℕ, zero, suc, List, [], ◌∷◌, ◌++◌, Result, Ok, Err, refl, ap, ◌∙◌, sym, append_assoc, append-nil, arith, length, ◌+◌, ◌≤◌}
+use Rattle.std.specs.Prelude.{◌↔◌, Bool, false, true, replicate, IsOk, OnOk, ⊤}
 use Rattle.std.specs.declared.io.Error.{Error}
 use Rattle.std.specs.declared.io.ErrorKind.TheVariants.{Interrupted}
 use Rattle.std.specs.IoError.{error_kind}
@@ -8,6 +8,14 @@ use Rattle.x86_streams.specs.Outside.Chain.{Call, Read, Write, Flush, Calls, Int
 use Rattle.x86_streams.specs.Outside.Record.{Adds, AreEvents, IsRecordOf, Records, RecordsFlush, RecordsRead, RecordsWrite, event_of, interrupted}
 use Rattle.x86_streams.specs.declared.outside.recorder.Event.{Event}
 use Rattle.x86_streams.specs.declared.outside.recorder.Record.{Record}
+
+-- what an append says where there is room
+pub appended : {A F P : Type 0} (answer : Result A F) (len room capacity : ℕ) (bytes : List ℕ) → IsOk answer ↔ (len + length bytes ≤ capacity) →
+    room + len ≡ capacity → length bytes ≤ room → OnOk answer P → P
+appended (Ok x) len room capacity bytes fits is inside holds = holds
+appended (Err e) len room capacity bytes fits is inside holds =
+    let fitted : false ≡ true = fits.1 (omega arith) in
+    absurd (cc)
 
 replicate_last : (n : ℕ) (e : Event) → replicate n e ++ e ∷ [] ≡ e ∷ replicate n e
 replicate_last zero e = refl
