@@ -15,18 +15,19 @@ use Rattle.x86_forms.specs.declared.Form.TheVariants.{Gv_M, Ev_Gv, Gv_Ev, G_E_xm
 use Rattle.x86_forms.specs.declared.TableRow.{TableRow}
 use Rattle.x86_forms.specs.Rows.{printed_row}
 use Rattle.x86_opcodes.specs.Names.{Invalid, ADD, LEA, MOV, PSHUFB}
-use Rattle.x86_operands.specs.declared.plans.Fault.TheVariants.{BadOperand}
-use Rattle.x86_operands.specs.declared.plans.Verdict.TheVariants.{Accepts}
+use Rattle.x86_operands.specs.declared.vocabulary.Fault.TheVariants.{BadOperand}
+use Rattle.x86_operands.specs.declared.vocabulary.Verdict.TheVariants.{Accepts}
 use Rattle.x86_operands.specs.declared.reader.Reading.{Reading}
-use Rattle.x86_operands.specs.declared.plans.ModrmUse.TheVariants.{EitherForm}
+use Rattle.x86_operands.specs.Records.{order_of}
+use Rattle.x86_operands.specs.declared.vocabulary.ModrmUse.TheVariants.{EitherForm}
 use Rattle.x86_operands.specs.Asks.{immediates_width}
-use Rattle.x86_operands.specs.Forms.{form_plan, form_record, modrm_use}
+use Rattle.x86_operands.specs.Forms.{form_instance, form_record, modrm_use}
 use Rattle.x86_operands.specs.Rows.{form_rows}
 use Rattle.x86_operands.specs.Pieces.{SpellsMemory, past_opcode, reading_from}
 use Rattle.x86_groups.proofs.AddressLemmas.{refuses_at_once}
 use Rattle.x86_operands.specs.Operands.{shape}
 use Rattle.x86_groups.specs.Rows.{group_rows}
-use Rattle.x86_groups.specs.Groups.{group_plan, group_record, record_of}
+use Rattle.x86_groups.specs.Groups.{group_instance, group_record, record_of}
 use Rattle.x86_decode.specs.declared.instructions.Instruction.{Instruction}
 use Rattle.x86_decode.specs.Answer.{answer_of}
 use Rattle.x86_decode.specs.Grammar.{allows_lock}
@@ -60,13 +61,13 @@ module _ (strict : Bool) (run : List ℕ) (in_map : Map) (opcode : ℕ) (row : T
   }
 
   abbrev pub sentence_of : (lawful : Bool) (reading : Reading) → let p = seen_by in_map opcode (reading_of run) in let r =
-      record_of strict row p in let plan = r.plan m in
+      record_of strict row p in let instance = r.instance m in
       let s = run ++ (escape_bytes in_map ++ opcode ∷ m ∷ (sib ++ displacement)) in
       is_run run ≡ true → is_opcode in_map opcode ≡ true → printed_row in_map (column_of (reading_of run)) opcode ≡ Some row →
       r.at_opcode ≡ None → r.modrm ≡ EitherForm →
-      plan.verdict ≡ Accepts → immediates_width plan ≡ 0 → SpellsMemory plan.order.rm p m (sib ++ displacement) memory →
+      instance.verdict ≡ Accepts → immediates_width instance ≡ 0 → SpellsMemory (order_of instance).rm p m (sib ++ displacement) memory →
       length sib ≡ sib_width m →
-      reading ≡ reading_from plan p m plan.opcode memory [] → allows_lock reading ≡ lawful → length s ≤ 15 →
+      reading ≡ reading_from instance p m instance.opcode memory [] → allows_lock reading ≡ lawful → length s ≤ 15 →
       Encodes printed_row strict lawful s (instruction_of reading (part_ends parts_at) (length s))
   sentence_of lawful reading prefixes is_opcode has_row passed modrm accepts none spelled long reads locks short =
       let p = seen_by in_map opcode (reading_of run) in
@@ -91,15 +92,15 @@ module _ (strict : Bool) (run : List ℕ) (in_map : Map) (opcode : ℕ) (row : T
         modrm_length = rw modrm refl;
         modrm = m;
         has_modrm = rw modrm refl;
-        plan = r.plan m;
-        has_plan = refl;
+        instance = r.instance m;
+        has_instance = refl;
         accepted = rw accepts refl;
         memory = memory;
         address_spelled = spelled;
         sib_length = long;
         immediate_length = sym none;
         suffix_length = rw accepts refl;
-        operation = (r.plan m).opcode;
+        operation = (r.instance m).opcode;
         named = rw accepts refl;
         reading = reading;
         reads = reads;
@@ -117,13 +118,13 @@ module _ (strict : Bool) where
 
   -- the run 48, no escape, the opcode byte 01 and its row, ModRM d8, and nothing after it
   pub add_sentence : Here (0x48 ∷ 0x01 ∷ 0xd8 ∷ []) (instruction_of add_rax_rbx (places_at 2 3) 3)
-  unfolding form_record form_plan form_rows modrm_use printed_row
+  unfolding form_record form_instance form_rows modrm_use printed_row
   add_sentence = sentence_of strict (0x48 ∷ []) One 0x01 (record { opcode = ADD; form = Ev_Gv }) 0xd8 [] [] None true add_rax_rbx
       refl refl refl refl refl refl refl (refl, refl) refl refl refl (omega arith)
 
   -- the run 48, no escape, the opcode byte 8b and its row, ModRM 45, and a displacement of one byte
   pub load_sentence : Here (0x48 ∷ 0x8b ∷ 0x45 ∷ 0x00 ∷ []) (instruction_of mov_rax_at_rbp (places_at 2 4) 4)
-  unfolding form_record form_plan form_rows modrm_use printed_row shape
+  unfolding form_record form_instance form_rows modrm_use printed_row shape
   load_sentence = sentence_of strict (0x48 ∷ []) One 0x8b (record { opcode = MOV; form = Gv_Ev }) 0x45 [] (0x00 ∷ [])
       (Some (at_register 0x45)) true mov_rax_at_rbp
       refl refl refl refl refl refl refl (
@@ -140,7 +141,7 @@ module _ (strict : Bool) where
 
   -- the same with a displacement of four bytes
   pub long_load_sentence : Here (0x48 ∷ 0x8b ∷ 0x85 ∷ 0x00 ∷ 0x00 ∷ 0x00 ∷ 0x00 ∷ []) (instruction_of mov_rax_at_rbp (places_at 2 7) 7)
-  unfolding form_record form_plan form_rows modrm_use printed_row shape
+  unfolding form_record form_instance form_rows modrm_use printed_row shape
   long_load_sentence = sentence_of strict (0x48 ∷ []) One 0x8b (record { opcode = MOV; form = Gv_Ev }) 0x85 []
       (0x00 ∷ 0x00 ∷ 0x00 ∷ 0x00 ∷ []) (Some (at_register 0x85)) true mov_rax_at_rbp
       refl refl refl refl refl refl refl (
@@ -157,13 +158,13 @@ module _ (strict : Bool) where
 
   -- no run, no escape, the opcode byte f7 and its row, ModRM d8, whose reg chooses NEG, and nothing after it
   pub group_sentence : Here (0xf7 ∷ 0xd8 ∷ []) (instruction_of neg_eax (places_at 1 2) 2)
-  unfolding group_record group_plan group_rows printed_row
+  unfolding group_record group_instance group_rows printed_row
   group_sentence = sentence_of strict [] One 0xf7 (record { opcode = Invalid; form = ModRM_0xf7 }) 0xd8 [] [] None true neg_eax
       refl refl refl refl refl refl refl (refl, refl) refl refl refl (omega arith)
 
   -- the run f0 48, no escape, the opcode byte 01 and its row, ModRM 03, and nothing after it
   pub locked_add_sentence : Here (0xf0 ∷ 0x48 ∷ 0x01 ∷ 0x03 ∷ []) (instruction_of add_at_rbx_rax (places_at 3 4) 4)
-  unfolding form_record form_plan form_rows modrm_use printed_row shape
+  unfolding form_record form_instance form_rows modrm_use printed_row shape
   locked_add_sentence = sentence_of strict (0xf0 ∷ 0x48 ∷ []) One 0x01 (record { opcode = ADD; form = Ev_Gv }) 0x03 [] []
       (Some (at_register 0x03)) true add_at_rbx_rax
       refl refl refl refl refl refl refl (
@@ -180,7 +181,7 @@ module _ (strict : Bool) where
 
   -- the run 66, the escape 0f 38, the opcode byte 00 and its row, ModRM c1, and nothing after it
   pub chosen_by_66_sentence : Here (0x66 ∷ 0x0f ∷ 0x38 ∷ 0x00 ∷ 0xc1 ∷ []) (instruction_of pshufb_xmm0_xmm1 (places_at 4 5) 5)
-  unfolding form_record form_plan form_rows modrm_use printed_row
+  unfolding form_record form_instance form_rows modrm_use printed_row
   chosen_by_66_sentence = sentence_of strict (0x66 ∷ []) Of38 0x00 (record { opcode = PSHUFB; form = G_E_xmm }) 0xc1 [] [] None true pshufb_xmm0_xmm1
       refl refl refl refl refl refl refl (refl, refl) refl refl refl (omega arith)
 
@@ -202,13 +203,13 @@ module _ (strict : Bool) where
 
   -- no run, no escape, the opcode byte 8d and its row, and ModRM c0: the address of a register
   pub no_memory_errs : Errs (0x8d ∷ 0xc0 ∷ []) InvalidOperand
-  unfolding form_record form_plan form_rows modrm_use printed_row
+  unfolding form_record form_instance form_rows modrm_use printed_row
   no_memory_errs = by_bytes (case_3 [] One 0x8d (record { opcode = LEA; form = Gv_M }) (0xc0 ∷ []) _ BadOperand refl refl refl refl refl
       (past_opcode (0xc0 ∷ []) [] refl refl refl (refuses_at_once _ _ _ _ refl refl refl)))
 
   -- the run f0, no escape, the opcode byte 01 and its row, ModRM d8, and nothing after it: F0 before an operation that takes it, whose first slot is a register
   pub forbidden_lock_errs : Errs (0xf0 ∷ 0x01 ∷ 0xd8 ∷ []) InvalidPrefixes
-  unfolding form_record form_plan form_rows modrm_use printed_row
+  unfolding form_record form_instance form_rows modrm_use printed_row
   forbidden_lock_errs = by_bytes (case_4 _ (sentence_of strict (0xf0 ∷ []) One 0x01 (record { opcode = ADD; form = Ev_Gv }) 0xd8 [] [] None false add_eax_ebx
       refl refl refl refl refl refl refl (refl, refl) refl refl refl (omega arith)))
 
@@ -315,7 +316,7 @@ module _ (strict : Bool) (h : Headline printed_row strict (functions strict)) wh
   }
 
   pub load_least : least_length strict (0x48 ∷ 0x8b ∷ 0x85 ∷ 0x00 ∷ 0x00 ∷ 0x00 ∷ 0x00 ∷ []) ≤ 4
-  unfolding long_load_sentence form_record form_plan form_rows modrm_use printed_row
+  unfolding long_load_sentence form_record form_instance form_rows modrm_use printed_row
   load_least =
       let of_bytes = bytes (0x48 ∷ 0x8b ∷ 0x85 ∷ 0x00 ∷ 0x00 ∷ 0x00 ∷ 0x00 ∷ [])
       (omega arith, (omega arith, (omega arith, (omega arith, (omega arith, (omega arith, (omega arith, tt))))))) in

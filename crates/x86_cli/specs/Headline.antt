@@ -53,7 +53,7 @@ module _ (rows : Rows) (strict : Bool) where
 
   -- The operand at k is spelled by ModRM as memory, with these raw fields.
   abbrev pub HasRaw : {s : List ℕ} {i : Instruction} → Sentence s i → ℕ → Raw → Type 0
-  HasRaw is k raw = (is.memory ≡ Some raw) × (names_modrm is.plan k ≡ true)
+  HasRaw is k raw = (is.memory ≡ Some raw) × (names_modrm is.instance k ≡ true)
 
   -- t is s in every part, but for mod and rm, SIB, displacement, and X and B of a live REX, and has the same address.
   module _ {s t : List ℕ} {i j : Instruction} (is : Sentence s i) (other : Sentence t j) where

@@ -9,11 +9,11 @@ use Rattle.x86_fields.specs.declared.raw.Raw.{Raw}
 use Rattle.x86_fields.specs.Parts.{PartLists}
 use Rattle.x86_forms.specs.declared.Map.{Map}
 use Rattle.x86_forms.specs.declared.TableRow.{TableRow}
-use Rattle.x86_operands.specs.declared.plans.Fault.{Fault}
+use Rattle.x86_operands.specs.declared.vocabulary.Fault.{Fault}
 use Rattle.x86_operands.specs.declared.places.Places.{Places}
 use Rattle.x86_operands.specs.declared.reader.Reading.{Reading}
-use Rattle.x86_operands.specs.Plans.{Plan, RowRecord, is_refusal}
-use Rattle.x86_operands.specs.PlanSteps.{error_of}
+use Rattle.x86_operands.specs.Records.{Instance, RowRecord, is_refusal, order_of}
+use Rattle.x86_operands.specs.RowSteps.{error_of}
 use Rattle.x86_operands.specs.Asks.{immediates_width, modrm_of}
 use Rattle.x86_operands.specs.Pieces.{SpellsMemory, RefusesRow, modrm_width, suffix_width, opcode_by, reading_from}
 use Rattle.x86_groups.specs.Groups.{record_of}
@@ -54,18 +54,18 @@ module _ (rows : Rows) (strict : Bool) where
     pub modrm_length : length parts.modrm ≡ modrm_width made.modrm
     pub modrm : ℕ
     pub has_modrm : modrm ≡ modrm_of made.modrm parts.modrm
-    pub plan : Plan
-    pub has_plan : plan ≡ made.plan modrm
-    pub accepted : is_refusal plan.verdict ≡ false
+    pub instance : Instance
+    pub has_instance : instance ≡ made.instance modrm
+    pub accepted : is_refusal instance.verdict ≡ false
     pub memory : Option Raw
-    pub address_spelled : SpellsMemory plan.order.rm seen modrm (parts.sib ++ parts.displacement) memory
+    pub address_spelled : SpellsMemory (order_of instance).rm seen modrm (parts.sib ++ parts.displacement) memory
     pub sib_length : length parts.sib ≡ sib_width modrm
-    pub immediate_length : length parts.immediate ≡ immediates_width plan
-    pub suffix_length : length parts.suffix ≡ suffix_width plan.verdict
+    pub immediate_length : length parts.immediate ≡ immediates_width instance
+    pub suffix_length : length parts.suffix ≡ suffix_width instance.verdict
     pub operation : ℕ
-    pub named : opcode_by plan.verdict plan.opcode parts.suffix ≡ Some operation
+    pub named : opcode_by instance.verdict instance.opcode parts.suffix ≡ Some operation
     pub reading : Reading
-    pub reads : reading ≡ reading_from plan seen modrm operation memory parts.immediate
+    pub reads : reading ≡ reading_from instance seen modrm operation memory parts.immediate
     pub locks : allows_lock reading ≡ lawful
     pub yields : answer ≡ instruction_of reading (part_ends parts) (length s)
 

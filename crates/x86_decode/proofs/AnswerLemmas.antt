@@ -14,7 +14,7 @@ use Rattle.x86_forms.specs.declared.Map.TheVariants.{One}
 use Rattle.x86_decode.specs.Head.{Rows}
 use Rattle.x86_decode.specs.Grammar.{IsSentence, DecidesByBytes, case_1, case_2, case_3, case_4, IsTooLong, Decides, by_bytes, case_5}
 use Rattle.x86_decode.specs.Grammar.{HasNoSentence, in_head, IsRefusal, IsAnswer}
-use Rattle.x86_operands.proofs.PlanLemmas.{fault_error}
+use Rattle.x86_operands.proofs.InstanceLemmas.{fault_error}
 use Rattle.x86_decode.proofs.HeadLemmas.{vex_final}
 use Rattle.x86_decode.proofs.PlaceLemmas.{same_places_of}
 use Rattle.x86_decode.proofs.BodyLemmas.{beginning_le, same_error, verdict, early, sentence_settles, out_nothing}

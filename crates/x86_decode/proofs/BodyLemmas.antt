@@ -12,9 +12,9 @@ use Rattle.x86_fields.proofs.StepLemmas.{Takes, takes_pure, takes_bind, takes_er
 use Rattle.x86_fields.proofs.EndLemmas.{EndsWell, Ends, settles, runs_out, ends_refuse, ends_bind, ends_then, weaken, IsFinal, final_ok}
 use Rattle.x86_fields.proofs.EndLemmas.{final_err, Out, out_bind, out_after, Halts, out, halts_bind}
 use Rattle.x86_forms.specs.declared.TableRow.{TableRow}
-use Rattle.x86_operands.specs.declared.plans.Fault.{Fault}
+use Rattle.x86_operands.specs.declared.vocabulary.Fault.{Fault}
 use Rattle.x86_operands.specs.declared.reader.Reading.{Reading}
-use Rattle.x86_operands.specs.PlanSteps.{error_of}
+use Rattle.x86_operands.specs.RowSteps.{error_of}
 use Rattle.x86_forms.specs.declared.Map.{Map}
 use Rattle.x86_forms.specs.declared.Map.TheVariants.{One}
 use Rattle.x86_decode.specs.declared.instructions.Instruction.{Instruction}
@@ -24,7 +24,7 @@ use Rattle.x86_groups.specs.Groups.{record_of}
 use Rattle.x86_decode.specs.Grammar.{IsRefusedByRecord, allows_lock, Whole, IsSentence, DecidesByBytes, case_1, case_2, case_3, case_4}
 use Rattle.x86_decode.specs.Grammar.{EndsBetweenPieces, in_head, in_tail}
 use Rattle.x86_operands.proofs.RecordLemmas.{RowYields, ends_row, takes_row, takes_row_refused, halts_row}
-use Rattle.x86_operands.proofs.PlanLemmas.{fault_error}
+use Rattle.x86_operands.proofs.InstanceLemmas.{fault_error}
 use Rattle.x86_decode.proofs.HeadLemmas.{IsHead, IsRun, ends_head, takes_head, out_head, OpcodeYields, OpcodeBetween, ends_opcode}
 use Rattle.x86_decode.proofs.HeadLemmas.{entry_byte, entry_rest, entry_is, entry_plain, takes_opcode, takes_vex, vex_plain, vex_final}
 use Rattle.x86_decode.proofs.HeadLemmas.{escape_beginning, EscapeBeginning, none, escape}

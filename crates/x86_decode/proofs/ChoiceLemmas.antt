@@ -15,17 +15,17 @@ use Rattle.x86_fields.proofs.EndLemmas.{Ends, settles, runs_out}
 use Rattle.x86_forms.specs.declared.TableRow.{TableRow}
 use Rattle.x86_forms.specs.Groups.{is_group}
 use Rattle.x86_forms.specs.Words.{rows_of, packed}
-use Rattle.x86_operands.specs.declared.plans.Fault.TheVariants.{BadOperand}
-use Rattle.x86_operands.specs.declared.plans.ModrmUse.{ModrmUse}
-use Rattle.x86_operands.specs.declared.plans.ModrmUse.TheVariants.{EitherForm}
+use Rattle.x86_operands.specs.declared.vocabulary.Fault.TheVariants.{BadOperand}
+use Rattle.x86_operands.specs.declared.vocabulary.ModrmUse.{ModrmUse}
+use Rattle.x86_operands.specs.declared.vocabulary.ModrmUse.TheVariants.{EitherForm}
 use Rattle.x86_operands.specs.declared.reader.Reading.{Reading}
-use Rattle.x86_operands.specs.PlanSteps.{read_plan, read_modrm, refuse_fault}
-use Rattle.x86_operands.specs.Places.{Placed, place_of, plan_places, plan_placed, record_placed}
+use Rattle.x86_operands.specs.RowSteps.{read_instance, read_modrm, refuse_fault}
+use Rattle.x86_operands.specs.Places.{Placed, place_of, instance_places, instance_placed, record_placed}
 use Rattle.x86_operands.specs.Forms.{form_record}
 use Rattle.x86_operands.specs.Pieces.{SpellsTail, SpellsRow, past_opcode, modrm_width, reading_from}
 use Rattle.x86_operands.specs.Asks.{modrm_of}
 use Rattle.x86_groups.proofs.AddressLemmas.{refuses_at_once}
-use Rattle.x86_groups.specs.Groups.{IsFenceWithRm, group_fault, group_modrm, group_plan, group_record, operandless, bad_operand}
+use Rattle.x86_groups.specs.Groups.{IsFenceWithRm, group_fault, group_modrm, group_instance, group_record, operandless, bad_operand}
 use Rattle.x86_decode.specs.declared.instructions.Instruction.{Instruction}
 use Rattle.x86_decode.specs.Head.{Rows, column_of, escape_bytes, clears, seen_by}
 use Rattle.x86_decode.specs.Instruction.{instruction_of}
@@ -51,27 +51,28 @@ compared_from : {X : Type 0} (a : Result X DecodeError) (s : State ℕ) (f g : X
 compared_from (Ok x) s f g each = each x s
 compared_from (Err e) s f g each = same refl
 
--- ---- plans
+-- ---- instances
 
 abbrev fence_reading : ℕ → Prefixes → Reading
 fence_reading o p = reading_from (operandless o p) p 0 o None []
 
 -- by the law of x86_groups on its two choices
-module _ (same_elsewhere : (row : TableRow) (p : Prefixes) (m : ℕ) → (group_plan row p m true ≡ group_plan row p m false) ⊎ IsFenceWithRm row.form p m)
-    (fence_by_default : (row : TableRow) (p : Prefixes) (m : ℕ) (fence : IsFenceWithRm row.form p m) → group_plan row p m false ≡ operandless fence.opcode p)
-    (fence_strictly : (row : TableRow) (p : Prefixes) (m : ℕ) → IsFenceWithRm row.form p m → group_plan row p m true ≡ bad_operand p) where
+module _ (same_elsewhere : (row : TableRow) (p : Prefixes) (m : ℕ) → (group_instance row p m true ≡ group_instance row p m false) ⊎ IsFenceWithRm row.form p m)
+    (fence_by_default : (row : TableRow) (p : Prefixes) (m : ℕ) (fence : IsFenceWithRm row.form p m) →
+    group_instance row p m false ≡ operandless fence.opcode p)
+    (fence_strictly : (row : TableRow) (p : Prefixes) (m : ℕ) → IsFenceWithRm row.form p m → group_instance row p m true ≡ bad_operand p) where
   compared_row : (t : Bool) (n : ℕ) (row : TableRow) (p : Prefixes) (s : State ℕ) →
       Compared (record_placed n (if t then group_record true row p else form_record row p) p s)
       (record_placed n (if t then group_record false row p else form_record row p) p s)
-  unfolding record_placed group_record read_plan
+  unfolding record_placed group_record read_instance
   compared_row true n row p s =
       compared_from (refuse_fault (group_fault row.form p) s).answer (refuse_fault (group_fault row.form p) s).after _ _
       (λ _ t. compared_from (read_modrm (group_modrm row.form) t).answer (read_modrm (group_modrm row.form) t).after _ _
       (λ m z. elim (same_elsewhere row p m) [
-        | inl e ↦ same (ap (λ plan. plan_placed n plan p m z) e)
-        | inr h ↦ differ (fence_reading h.opcode p, plan_places (operandless h.opcode p) p m z n)
-            (ap (λ plan. (plan_placed n plan p m z).answer) (fence_by_default row p m h))
-            (ap (λ plan. (plan_placed n plan p m z).answer) (fence_strictly row p m h))
+        | inl e ↦ same (ap (λ instance. instance_placed n instance p m z) e)
+        | inr h ↦ differ (fence_reading h.opcode p, instance_places (operandless h.opcode p) p m z n)
+            (ap (λ instance. (instance_placed n instance p m z).answer) (fence_by_default row p m h))
+            (ap (λ instance. (instance_placed n instance p m z).answer) (fence_strictly row p m h))
       ]))
   compared_row false n row p s = same refl
 
@@ -118,7 +119,7 @@ module _ (same_elsewhere : (row : TableRow) (p : Prefixes) (m : ℕ) → (group_
           passed = s.passed;
           spelled = s.spelled;
           modrm_length = s.modrm_length;
-          tail_spelled = subst (λ plan. SpellsTail plan p m s.tail reading) (sym e) s.tail_spelled;
+          tail_spelled = subst (λ instance. SpellsTail instance p m s.tail reading) (sym e) s.tail_spelled;
         }))
         | inr h ↦ (m, s.tail, s.spelled ∙ ap (λ l. l ++ s.tail) (one_byte (group_modrm row.form) s.modrm (ap group_modrm h.group) s.modrm_length), h)
       ]

@@ -99,7 +99,7 @@ module _ (rows : Rows) (strict : Bool) where
     row_places s = record {
       opcode_end = place_of s.since_mark;
       address_end = place_of ((s.since_mark + length w.row_spelled.modrm) + length w.row_spelled.tail_spelled.pieces.address);
-      has_suffix = uses_suffix ((record_of strict w.row p).plan (modrm_of (record_of strict w.row p).modrm w.row_spelled.modrm)).verdict;
+      has_suffix = uses_suffix ((record_of strict w.row p).instance (modrm_of (record_of strict w.row p).modrm w.row_spelled.modrm)).verdict;
     }
 
     same_places : (s : State ℕ) → s.since_mark ≡ length (w.run ++ byte ∷ []) + length others → row_places s ≡ places_of rows strict q reading w

@@ -12,8 +12,8 @@ use Rattle.x86_groups.specs.Heads.{Continues}
 use Rattle.x86_groups.specs.declared.bytes.Next.{Next}
 use Rattle.x86_operands.specs.declared.heads.After.{After}
 use Rattle.x86_operands.specs.OperandList.{value_if_ok}
-use Rattle.x86_operands.specs.Plans.{RowRecord}
-use Rattle.x86_operands.specs.PlanSteps.{read_modrm}
+use Rattle.x86_operands.specs.Records.{RowRecord}
+use Rattle.x86_operands.specs.RowSteps.{read_modrm}
 use Rattle.x86_decode.proofs.RowWalk.{reads_modrm}
 
 -- an outcome where the answer is Ok

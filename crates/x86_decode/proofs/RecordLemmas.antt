@@ -14,8 +14,8 @@ use Rattle.x86_forms.specs.Rows.{Row, printed_rows, row_in, has_column, printed_
 use Rattle.x86_forms.specs.declared.TableRow.{TableRow}
 use Rattle.x86_forms.specs.Groups.{is_group}
 use Rattle.x86_forms.specs.Words.{rows_of, packed}
-use Rattle.x86_operands.specs.declared.plans.Fault.TheVariants.{Incomplete}
-use Rattle.x86_operands.specs.declared.plans.Verdict.TheVariants.{Refuses}
+use Rattle.x86_operands.specs.declared.vocabulary.Fault.TheVariants.{Incomplete}
+use Rattle.x86_operands.specs.declared.vocabulary.Verdict.TheVariants.{Refuses}
 use Rattle.x86_operands.specs.Forms.{form_record}
 use Rattle.x86_operands.specs.Asks.{modrm_of}
 use Rattle.x86_operands.specs.Pieces.{after_pieces, no_name, RefusesRow, at_opcode, past_opcode}
@@ -29,16 +29,16 @@ use Rattle.x86_decode.proofs.PrintedLemmas.{printed_answer}
 
 -- ---- sizes, by the laws on plain forms and on groups
 
-module _ (plain : (row : TableRow) (p : Prefixes) (m : ℕ) → ((form_record row p).plan m).size ≤ 64)
-    (group : (strict : Bool) (row : TableRow) (p : Prefixes) (m : ℕ) → ((group_record strict row p).plan m).size ≤ 64) where
-  -- an instruction has the size of its plan
+module _ (plain : (row : TableRow) (p : Prefixes) (m : ℕ) → ((form_record row p).instance m).size ≤ 64)
+    (group : (strict : Bool) (row : TableRow) (p : Prefixes) (m : ℕ) → ((group_record strict row p).instance m).size ≤ 64) where
+  -- an instruction has the size of its instance
   pub answer_small : (rows : Rows) (strict : Bool) (input : List ℕ) (a : Instruction) (n : ℕ) → IsAnswer rows strict input (Ok a) n →
       a.operand_list.mem_size < 65
   answer_small rows strict input a n h =
       let row = h.is.whole.row in
       let p : Prefixes = seen_by h.is.whole.map h.is.whole.opcode (reading_of h.is.whole.run) in
       let m = modrm_of (record_of strict row p).modrm h.is.whole.row_spelled.modrm in
-      let small = cond_both (is_group row.form) (group_record strict row p) (form_record row p) (λ r. (r.plan m).size ≤ 64)
+      let small = cond_both (is_group row.form) (group_record strict row p) (form_record row p) (λ r. (r.instance m).size ≤ 64)
       (λ _. group strict row p m) (λ _. plain row p m) in
       omega (arith, ap (λ i. i.operand_list.mem_size) h.is.yields, ap (λ x. x.mem_size) h.is.whole.row_spelled.tail_spelled.yields, small)
 
@@ -83,15 +83,15 @@ printed_at printed m column byte row e = rw (sym (printed m column byte) ∙ e) 
 -- ---- records that are left out, by the laws on what is built
 
 module _ (plain : (row : TableRow) (p : Prefixes) (m : ℕ) → is_group row.form ≡ false →
-    ((form_record row p).plan m).verdict ≢ Refuses Incomplete)
+    ((form_record row p).instance m).verdict ≢ Refuses Incomplete)
     (passes : (row : TableRow) (p : Prefixes) → (form_record row p).at_opcode ≡ None)
     (group_passes : (strict : Bool) (row : TableRow) (p : Prefixes) → (group_record strict row p).at_opcode ≢ Some Incomplete)
     (group : (strict : Bool) (row : TableRow) (p : Prefixes) (m : ℕ) → is_group row.form ≡ true →
-    ((group_record strict row p).plan m).verdict ≡ Refuses Incomplete → row.form ≡ form.ModRM_0x8f) where
+    ((group_record strict row p).instance m).verdict ≡ Refuses Incomplete → row.form ≡ form.ModRM_0x8f) where
   gap_of_8f : (strict : Bool) (row : TableRow) (p : Prefixes) (m : ℕ) →
-      ((record_of strict row p).plan m).verdict ≡ Refuses Incomplete → row.form ≡ form.ModRM_0x8f
+      ((record_of strict row p).instance m).verdict ≡ Refuses Incomplete → row.form ≡ form.ModRM_0x8f
   gap_of_8f strict row p m = cond_both (is_group row.form) (group_record strict row p) (form_record row p)
-      (λ r. (r.plan m).verdict ≡ Refuses Incomplete → row.form ≡ form.ModRM_0x8f)
+      (λ r. (r.instance m).verdict ≡ Refuses Incomplete → row.form ≡ form.ModRM_0x8f)
       (λ is. group strict row p m is) (λ is e. absurd (plain row p m is e))
 
   row_of_8f : (strict : Bool) (row : TableRow) (p : Prefixes) (bytes : List ℕ) → RefusesRow (record_of strict row p) p bytes Incomplete →

@@ -10,19 +10,18 @@ use Rattle.x86_fields.specs.Run.{reading_of}
 use Rattle.x86_fields.specs.Linear.{raw_form}
 use Rattle.x86_forms.specs.Words.{rows_of, packed}
 use Rattle.x86_operands.specs.Operands.{shape, operand_form}
-use Rattle.x86_operands.specs.Plans.{RowRecord}
+use Rattle.x86_operands.specs.Records.{RowRecord, order_of}
 use Rattle.x86_decode.specs.declared.instructions.Instruction.{Instruction}
 use Rattle.x86_decode.specs.Head.{Rows, escape_bytes, clears, column_of, seen_by}
 use Rattle.x86_decode.specs.Instruction.{slot_at, operand_at, instruction_of, operand_count}
 use Rattle.x86_decode.specs.Ties.{HasTiedOperands}
-use Rattle.x86_decode.specs.Addresses.{plan_within, raw_within}
+use Rattle.x86_decode.specs.Addresses.{instance_within, raw_within}
 use Rattle.x86_groups.specs.Groups.{record_of}
-use Rattle.x86_groups.proofs.GroupLemmas.{record_in_order}
 use Rattle.x86_decode.specs.Grammar.{places_of, IsSentence, IsAnswer}
 use Rattle.x86_decode.specs.Answer.{answer_of, count_of}
 use Rattle.x86_operands.specs.declared.reader.Reading.{Reading}
 use Rattle.x86_operands.specs.Asks.{modrm_of}
-use Rattle.x86_operands.specs.Pieces.{SpellsRow, IsOrdered, names_modrm, plan_spelled, HasShapeAt, slot_read, operand_read, AreTied}
+use Rattle.x86_operands.specs.Pieces.{SpellsRow, names_modrm, instance_spelled, HasShapeAt, slot_read, operand_read, AreTied}
 use Rattle.x86_decode.proofs.ByteLemmas.{Bytes, bytes_of, bytes_after, bytes_before, memory_fits}
 use Rattle.x86_operands.proofs.TieLemmas.{spelled_tied}
 use Rattle.x86_decode.proofs.PrintedLemmas.{printed_answer}
@@ -59,20 +58,20 @@ module _ (reading : Reading) (places : Places) (n : ℕ) where
 pub sentence_tied : (rows : Rows) (strict : Bool) (s : List ℕ) (a : Instruction) → IsSentence rows strict s a → HasTiedOperands a
 sentence_tied rows strict s a is = rw is.yields
     (tied_operands is.reading (places_of rows strict s is.reading is.whole) (length s)
-    (spelled_tied _ _ is.whole.tail is.reading is.whole.row_spelled (record_in_order strict is.whole.row _)))
+    (spelled_tied _ _ is.whole.tail is.reading is.whole.row_spelled))
 
 -- ---- the memory operand of ModRM, by the laws on such operands and on shapes
 
 module _ (shapes : (r : RowRecord) (p : Prefixes) (bytes : List ℕ) (reading : Reading) (row_spelled : SpellsRow r p bytes reading)
-    (raw : Raw) → IsOrdered r → row_spelled.tail_spelled.pieces.memory ≡ Some raw → (k : ℕ) →
-    names_modrm (plan_spelled r p bytes reading row_spelled) k ≡ true → HasShapeAt reading k raw)
+    (raw : Raw) → row_spelled.tail_spelled.pieces.memory ≡ Some raw → (k : ℕ) →
+    names_modrm (instance_spelled r p bytes reading row_spelled) k ≡ true → HasShapeAt reading k raw)
     (rows : Rows) (strict : Bool) (s : List ℕ) (a : Instruction) (is : IsSentence rows strict s a) (raw : Raw) (k : ℕ)
     (memory : raw_within rows strict s is.reading is.whole ≡ Some raw)
-    (named : names_modrm (plan_within rows strict s is.reading is.whole) k ≡ true) where
+    (named : names_modrm (instance_within rows strict s is.reading is.whole) k ≡ true) where
   pub sentence_shape : (slot_at a k ≡ (shape raw).0) × (operand_at a k ≡ (shape raw).1)
   sentence_shape =
       let here = is_shape is.reading (places_of rows strict s is.reading is.whole) (length s) k raw
-      (shapes _ _ is.whole.tail is.reading is.whole.row_spelled raw (record_in_order strict is.whole.row _) memory k named) in
+      (shapes _ _ is.whole.tail is.reading is.whole.row_spelled raw memory k named) in
       (ap (λ i. slot_at i k) is.yields ∙ here.0, ap (λ i. operand_at i k) is.yields ∙ here.1)
 
   pub sentence_address : ((r : RowRecord) (p : Prefixes) (bytes : List ℕ) (reading : Reading) (row_spelled : SpellsRow r p bytes reading)
@@ -87,7 +86,7 @@ module _ (shapes : (r : RowRecord) (p : Prefixes) (bytes : List ℕ) (reading : 
       -- the bytes of SIB and displacement
       let after_run = bytes_after w.run (escape_bytes w.map ++ w.opcode ∷ w.tail) (subst Bytes w.spelled (bytes_of s bytes)) in
       let past_opcode : Bytes r.tail = bytes_after r.modrm r.tail (subst Bytes r.spelled (bytes_after (escape_bytes w.map) (w.opcode ∷ w.tail) after_run).1) in
-      let fits : FitsSigned w32 raw.disp = memory_fits ((record_of strict w.row p).plan (modrm_of (record_of strict w.row p).modrm r.modrm)).order.rm p
+      let fits : FitsSigned w32 raw.disp = memory_fits (order_of ((record_of strict w.row p).instance (modrm_of (record_of strict w.row p).modrm r.modrm))).rm p
       (modrm_of (record_of strict w.row p).modrm r.modrm) q.address q.memory raw q.address_spelled memory
       (bytes_before q.address (q.immediates ++ q.suffix) (subst Bytes q.spelled past_opcode)) in
       -- clearing 66 leaves 67

@@ -2,7 +2,7 @@
 use Rattle.std.specs.Prelude.{◌≡◌, ℕ, ◌≤◌, ◌⊎◌, Bool, true, false, List, ◌++◌, length}
 use Rattle.x86_fields.specs.declared.errors.DecodeError.{DecodeError}
 use Rattle.x86_fields.specs.Run.{reading_of}
-use Rattle.x86_operands.specs.declared.plans.Fault.TheVariants.{BadOpcode, BadOperand, Incomplete}
+use Rattle.x86_operands.specs.declared.vocabulary.Fault.TheVariants.{BadOpcode, BadOperand, Incomplete}
 use Rattle.x86_decode.specs.declared.instructions.Instruction.{Instruction}
 use Rattle.x86_decode.specs.Head.{Rows, bars_vex}
 use Rattle.x86_decode.specs.Grammar.{IsSentence, IsVexAfterRun, HasNoRow, IsRefusedByRecord, HasForbiddenLock, IsTooLong, Decides, HasNoSentence}

@@ -16,7 +16,7 @@ use Rattle.x86_operands.specs.Operands.{access_size, is_memory_slot}
 use Rattle.x86_operands.specs.declared.places.Places.{Places}
 use Rattle.x86_operands.specs.Places.{no_places}
 use Rattle.x86_operands.specs.OperandList.{operand_in, slot_in}
-use Rattle.x86_operands.specs.PlanSteps.{no_operands, reading_with}
+use Rattle.x86_operands.specs.RowSteps.{no_operands, reading_with}
 use Rattle.x86_decode.specs.declared.instructions.Instruction.{Instruction}
 use Rattle.x86_decode.specs.declared.instructions.Shown.{Shown}
 

@@ -1,15 +1,16 @@
 //! What a row has after its opcode byte, written where it stays.
 
-ghost use Rattle.std.specs.Prelude.{◌≡◌, ◌≢◌, ℕ, Bool, IfOk, IfSome, false};
+ghost use Rattle.std.specs.Prelude.{◌≡◌, ◌≢◌, ℕ, Bool, IfOk, IfSome, true, false};
 ghost use Rattle.x86_fields.specs.Steps.{outcome, then_from};
 ghost use Rattle.x86_operands.specs.OperandList.{value_if_ok};
-ghost use Rattle.x86_operands.specs.Places.{plan_placed};
-ghost use Rattle.x86_operands.specs.Plans.{RowRecord};
-ghost use Rattle.x86_operands.specs.PlanSteps.{no_operands, read_modrm};
+ghost use Rattle.x86_operands.specs.Places.{instance_placed};
+ghost use Rattle.x86_operands.specs.Records.{RowRecord};
+ghost use Rattle.x86_operands.specs.RowSteps.{no_operands, read_modrm};
 ghost use Rattle.x86_operands.specs.declared.heads.After.TheVariants as After;
 ghost use Rattle.x86_forms.specs.declared.TableRow.{TableRow};
 ghost use Rattle.x86_groups.specs.Heads.{Continues, IsReadAt, IsSure};
-ghost use Rattle.x86_decode.specs.Walk.{placed_in, plan_at, row_placed, unread_step};
+ghost use Rattle.x86_operands.specs.Templates.{has_free_sizes};
+ghost use Rattle.x86_decode.specs.Walk.{placed_in, instance_at, row_placed, unread_step};
 
 use crate::instructions::Instruction;
 use x86_arch::Reader;
@@ -49,12 +50,13 @@ pub fn read_operands<T: Reader<u64, u8>>(
     inst: &mut Instruction,
 ) -> Result<(), DecodeError>
     requires at_once { IsReadAt modrm sure }
+    requires free { has_free_sizes sure.template.now ≡ true }
     requires blank { inst.old.operand_list ≡ no_operands }
     requires no_suffix { inst.old.places.has_suffix ≡ false }
     ensures read { (strict : Bool) (found : TableRow) → IsSure found modrm sure.entry →
         outcome (value_if_ok result (placed_in inst.new)) (T.state reader.new)
-        ≡ plan_placed inst.old.places.opcode_end
-        (plan_at strict found inst.old.prefixes modrm) inst.old.prefixes modrm
+        ≡ instance_placed inst.old.places.opcode_end
+        (instance_at strict found inst.old.prefixes modrm) inst.old.prefixes modrm
         (T.state reader.old) }
     ensures same_prefixes { inst.new.prefixes ≡ inst.old.prefixes }
 {
@@ -62,7 +64,6 @@ pub fn read_operands<T: Reader<u64, u8>>(
     inst.operand_list.read(
         reader,
         sure.template,
-        sure.opcode,
         sure.register,
         &inst.prefixes,
         modrm,
@@ -97,7 +98,12 @@ pub fn read_row<T: Reader<u64, u8>>(
     let modrm = read_modrm(after, reader)?;
     match sure_row(found, modrm) {
         Some(sure) => {
-            read_operands(sure, modrm, reader, inst)?;
+            let template = sure.template.with_sizes(sure.opcode);
+            let sized = SureRow {
+                template: &template,
+                ..sure
+            };
+            read_operands(sized, modrm, reader, inst)?;
             Ok(None)
         }
         None => Ok(Some(Unread {

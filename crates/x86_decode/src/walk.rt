@@ -4,7 +4,7 @@ ghost use Rattle.x86_arch.specs.Reader.{marked};
 ghost use Rattle.x86_fields.specs.Steps.{outcome, then_from};
 ghost use Rattle.x86_forms.specs.Words.{rows_of};
 ghost use Rattle.x86_operands.specs.OperandList.{value_if_ok};
-ghost use Rattle.x86_operands.specs.PlanSteps.{no_operands};
+ghost use Rattle.x86_operands.specs.RowSteps.{no_operands};
 ghost use Rattle.x86_decode.specs.Answer.{answer_of};
 ghost use Rattle.x86_decode.specs.Grammar.{allows_lock};
 ghost use Rattle.x86_decode.specs.Instruction.{holding, invalid_instruction};

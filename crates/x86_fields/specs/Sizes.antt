@@ -1,6 +1,6 @@
 -- Classes of operands by the reading of a run. Source: Intel SDM volume 2, sections 2.2.1.2 and 3.1.1.3, and volume
 -- 1, section 3.6.1.
-use Rattle.std.specs.Prelude.{ℕ, nat_le, ◌&&◌, ◌||◌, not, if◌then◌else◌, is_some}
+use Rattle.std.specs.Prelude.{ℕ, Bool, true, false, nat_le, ◌&&◌, ◌||◌, not, if◌then◌else◌, is_some}
 use Rattle.x86_regs.specs.declared.RegisterClass.{RegisterClass}
 use Rattle.x86_regs.specs.declared.RegisterClass.TheVariants.{B, W, D, RB, Q, X, MM, ST}
 use Rattle.x86_regs.specs.declared.RegSpec.{RegSpec}
@@ -46,6 +46,14 @@ class_of width.Vq p = vq_class p
 class_of width.Vd p = vd_class p
 class_of width.Dq p = dq_class p
 class_of width.St p = ST
+
+-- Whether R and B extend the number of each register of a width, and a REX changes no name: of all but bytes, mm registers
+-- and those of x87. Source: Intel SDM volume 2, section 2.2.1.2.
+abbrev pub is_regular : Width → Bool
+is_regular width.B = false
+is_regular width.Mm = false
+is_regular width.St = false
+is_regular w = true
 
 -- A byte register below 4 has class B; from 4 on it has class rB with a live REX, else class B.
 abbrev pub byte_reg : Prefixes → ℕ → RegSpec

@@ -1,10 +1,10 @@
 //! The byte ModRM and its fields. Source: Intel SDM volume 2, section 2.1.3.
 
-ghost use Rattle.std.specs.Prelude.{◌≡◌, ◌<◌, ℕ};
+ghost use Rattle.std.specs.Prelude.{◌≡◌, ◌<◌, ℕ, true};
 ghost use Rattle.x86_fields.specs.ModRM.{absent_modrm, as_register, is_memory, mod_field, packed_byte, reg_field, rm_field};
 ghost use Rattle.x86_fields.specs.Address.{extend};
 ghost use Rattle.x86_fields.specs.Raw.{has_b, has_r};
-ghost use Rattle.x86_fields.specs.Sizes.{class_of, register_of, size_prefixes};
+ghost use Rattle.x86_fields.specs.Sizes.{class_of, is_regular, register_of, size_prefixes};
 
 use crate::prefixes::Prefixes;
 use crate::sizes::{SizePrefixes, Width};
@@ -143,6 +143,16 @@ impl<'a> PrefixedModRM<'a> {
 }
 
 impl PrefixedModRM<'_> {
+    /// The register of a regular width with a number.
+    #[inline(always)]
+    pub fn register(&self, width: Width, number: u8) -> RegSpec
+        requires { is_regular width ≡ true }
+        ensures { result ≡ register_of (class_of width self.now.prefixes.now)
+            self.now.prefixes.now number }
+    {
+        RegSpec::of(number, width.class(self.sizes))
+    }
+
     /// The register of reg, with R, of a width.
     #[inline(always)]
     pub fn reg(&self, width: Width) -> RegSpec

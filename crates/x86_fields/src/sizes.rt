@@ -4,7 +4,7 @@
 ghost use Rattle.std.specs.Prelude.{◌≡◌, ◌<◌, None};
 ghost use Rattle.x86_fields.specs.declared.prefixes.Prefixes.{Prefixes};
 ghost use Rattle.x86_fields.specs.Prefixes.{rex};
-ghost use Rattle.x86_fields.specs.Sizes.{size_prefixes, class_of, v_class, vq_class, vd_class, dq_class, byte_reg, register_of};
+ghost use Rattle.x86_fields.specs.Sizes.{size_prefixes, class_of, v_class, vq_class, vd_class, dq_class, byte_reg, is_regular, register_of};
 
 use crate::prefixes::Prefixes;
 use x86_regs::{RegSpec, RegisterClass};
@@ -25,6 +25,8 @@ pub enum SizePrefixes {
 pub enum Width {
     B,
     Mm,
+    /// A register of the x87 stack. It has no letter.
+    St,
     W,
     D,
     Q,
@@ -37,8 +39,6 @@ pub enum Width {
     Vd,
     /// Q under REX.W, else D.
     Dq,
-    /// A register of the x87 stack. It has no letter.
-    St,
 }
 
 const B: RegisterClass = RegisterClass::B;
@@ -59,6 +59,7 @@ const X: RegisterClass = RegisterClass::X;
 const CLASSES: &[[RegisterClass; 4]; 11] = &[
     [B, B, B, B], // B
     [MM, MM, MM, MM], // Mm
+    [ST, ST, ST, ST], // St
     [W, W, W, W], // W
     [D, D, D, D], // D
     [Q, Q, Q, Q], // Q
@@ -67,7 +68,6 @@ const CLASSES: &[[RegisterClass; 4]; 11] = &[
     [Q, Q, W, W], // Vq
     [D, D, W, D], // Vd
     [D, Q, D, Q], // Dq
-    [ST, ST, ST, ST], // St
 ];
 
 impl Width {
@@ -77,6 +77,15 @@ impl Width {
         ensures { (p : Prefixes) → sizes ≡ size_prefixes p → result ≡ class_of self p }
     {
         CLASSES[self as usize][sizes as usize]
+    }
+
+    /// Whether R and B extend the number of each of its registers, and a REX changes no name: so of all but bytes, mm
+    /// registers and those of x87.
+    #[inline(always)]
+    pub fn is_regular(self) -> bool
+        ensures { result ≡ is_regular self }
+    {
+        self as usize > Width::St as usize
     }
 }
 

@@ -7,20 +7,21 @@ use Rattle.x86_forms.specs.Groups.{is_group}
 use Rattle.x86_forms.specs.declared.Form.TheVariants as form
 use Rattle.x86_operands.specs.Asks.{immediates_width, modrm_of}
 use Rattle.x86_operands.specs.Columns.{choose}
-use Rattle.x86_operands.specs.Forms.{form_plan, form_record, modrm_use}
-use Rattle.x86_operands.specs.Plans.{Plan, RowRecord, is_refusal}
+use Rattle.x86_operands.specs.Forms.{form_instance, form_record, modrm_use}
+use Rattle.x86_operands.specs.Orders.{positions, sequence_of}
+use Rattle.x86_operands.specs.Records.{Instance, RowRecord, is_refusal, order_of}
 use Rattle.x86_operands.specs.Pieces.{RefusesTail, after_pieces, suffix_width}
 use Rattle.x86_operands.specs.Rows.{form_rows}
 use Rattle.x86_operands.specs.declared.order.Position.TheVariants.{Nowhere}
 use Rattle.x86_operands.specs.Templates.{has_address, is_register_place, somewhere}
 use Rattle.x86_operands.proofs.ColumnLemmas.{chosen_has, row_absent}
 use Rattle.x86_groups.specs.Vocabulary.{Prefixes, Fault, Refuses, Form, TableRow, TemplateRow, ModrmUse, EitherForm, is_memory}
-use Rattle.x86_groups.specs.Groups.{group_plan, group_record, record_of}
+use Rattle.x86_groups.specs.Groups.{group_instance, group_record, record_of}
 use Rattle.x86_groups.specs.Rows.{group_rows}
 
 -- it refuses, or has an operand of rm
 abbrev has_rm : TemplateRow → Bool
-has_rm row = is_refusal row.verdict || somewhere row.template.order.rm
+has_rm row = is_refusal row.verdict || somewhere (positions (sequence_of row.template.order)).rm
 
 abbrev has_rm_in_memory : TemplateRow → Bool
 has_rm_in_memory row = is_register_place row.at.place || has_rm row
@@ -44,15 +45,15 @@ chosen_has_rm rows own strict p m h mem =
       | inr e ↦ e
     ]) rows h
 
-abbrev plan_has_rm : Plan → Bool
-plan_has_rm plan = is_refusal plan.verdict || somewhere plan.order.rm
+abbrev instance_has_rm : Instance → Bool
+instance_has_rm instance = is_refusal instance.verdict || somewhere (order_of instance).rm
 
 abbrev pub By : Bool → TableRow → Bool → Prefixes → RowRecord
 By strict row group p = if group then group_record strict row p else form_record row p
 
 by_kind : (strict : Bool) (row : TableRow) (p : Prefixes) (m : ℕ) → is_memory m ≡ true → (group : Bool) →
-    (By strict row group p).modrm ≡ EitherForm → plan_has_rm ((By strict row group p).plan m) ≡ true
-unfolding group_record group_plan form_record form_plan
+    (By strict row group p).modrm ≡ EitherForm → instance_has_rm ((By strict row group p).instance m) ≡ true
+unfolding group_record group_instance form_record form_instance
 by_kind strict row p m mem true usage = chosen_has_rm (group_rows row.form) row strict p m (groups_have row.form) mem
 by_kind strict row p m mem false usage = chosen_has_rm (form_rows row.form) row false p m (forms_have row.form usage) mem
 
@@ -65,18 +66,18 @@ same_test a rm memory e h = grind arith
 -- SIB and displacement of a row that is read are there in the memory form
 pub address_is : (strict : Bool) (row : TableRow) (p : Prefixes) (modrm : List ℕ) →
     (let r = record_of strict row p in let m = modrm_of r.modrm modrm in
-    is_refusal (r.plan m).verdict ≡ false → has_address (r.plan m).order.rm m ≡ is_memory m)
+    is_refusal (r.instance m).verdict ≡ false → has_address (order_of (r.instance m)).rm m ≡ is_memory m)
 address_is strict row p modrm accepted =
     let r = record_of strict row p in
     let m = modrm_of r.modrm modrm in
-    same_test (is_refusal (r.plan m).verdict) (somewhere (r.plan m).order.rm) (is_memory m) accepted
+    same_test (is_refusal (r.instance m).verdict) (somewhere (order_of (r.instance m)).rm) (is_memory m) accepted
     (λ mem. by_kind strict row p m mem (is_group row.form) (uses_either_form r.modrm modrm mem))
 
--- ---- a plan that refuses after ModRM, and takes nothing before
+-- ---- an instance that refuses after ModRM, and takes nothing before
 
-pub refuses_at_once : (plan : Plan) (p : Prefixes) (m : ℕ) (fault : Fault) → plan.verdict ≡ Refuses fault → plan.order.rm ≡ Nowhere →
-    immediates_width plan ≡ 0 → RefusesTail plan p m [] fault
-refuses_at_once plan p m fault is rm none =
+pub refuses_at_once : (instance : Instance) (p : Prefixes) (m : ℕ) (fault : Fault) → instance.verdict ≡ Refuses fault → (order_of instance).rm ≡ Nowhere →
+    immediates_width instance ≡ 0 → RefusesTail instance p m [] fault
+refuses_at_once instance p m fault is rm none =
     after_pieces is (record {
       memory = None;
       address = [];

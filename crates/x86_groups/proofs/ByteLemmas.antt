@@ -4,8 +4,6 @@ use Rattle.std.proofs.Common.{List, [], ◌∷◌, map, get_or, refl, sym, ap, �
 use Rattle.std.specs.List.{range_with_len}
 use Rattle.std.proofs.lemmas.Bool.{and_parts, cond_both}
 use Rattle.std.proofs.lemmas.List.FromFn.{get_or-map-range_with_len}
-use Rattle.x86_opcodes.specs.Names.{Invalid}
-use Rattle.x86_opcodes.specs.Numbers.{IsNamed, count_of_names}
 use Rattle.x86_forms.specs.declared.Column.TheVariants.{Plain}
 use Rattle.x86_forms.specs.declared.Map.{Map}
 use Rattle.x86_forms.specs.declared.Map.TheVariants.{One, Of}
@@ -19,17 +17,17 @@ use Rattle.x86_operands.specs.declared.rows.Place.{Place}
 use Rattle.x86_operands.specs.declared.rows.Reg.{Reg}
 use Rattle.x86_operands.specs.declared.rows.Reg.TheVariants as regs
 use Rattle.x86_operands.specs.declared.rows.TemplateRow.{TemplateRow}
-use Rattle.x86_operands.specs.declared.sizing.Size.TheVariants as size
 use Rattle.x86_operands.specs.declared.templates.Template.{Template}
-use Rattle.x86_operands.specs.Columns.{is_named, is_placed, is_there, named, opcode_of, plan_of_row}
-use Rattle.x86_operands.specs.Encodings.{named_size, size_bytes}
-use Rattle.x86_operands.specs.Forms.{form_plan, form_record, is_searched, modrm_use, place_use, rows_use}
-use Rattle.x86_operands.specs.Plans.{reads, template_plan}
+use Rattle.x86_operands.specs.Columns.{is_named, is_placed, is_there, opcode_of, instance_of_row}
+use Rattle.x86_operands.specs.Encodings.{operation_size}
+use Rattle.x86_operands.specs.Forms.{form_instance, form_record, is_searched, modrm_use, place_use, rows_use}
+use Rattle.x86_operands.specs.Records.{template_instance}
 use Rattle.x86_operands.specs.Rows.{form_rows}
-use Rattle.x86_operands.specs.Templates.{is_read_at}
+use Rattle.x86_operands.specs.Templates.{is_read_at, with_sizes}
 use Rattle.x86_operands.specs.Words.{AtModRM, otherwise}
-use Rattle.x86_operands.proofs.SureLemmas.{at_names, at_place, at_reg, first_chosen, first_of, is_free, is_read, is_sure, may_be, plan_is, present}
-use Rattle.x86_groups.specs.Vocabulary.{After, BadOpcode, Form, Names, Prefixes, Size, TableRow, is_memory, reg_field}
+use Rattle.x86_operands.proofs.SureLemmas.{at_names, at_place, at_reg, first_chosen, first_of, is_read, is_sure, may_be, instance_is, present}
+use Rattle.x86_operands.proofs.TemplateLemmas.{sized_instance, sizes_are_free}
+use Rattle.x86_groups.specs.Vocabulary.{After, BadOpcode, Form, Names, Prefixes, TableRow, is_memory, reg_field}
 use Rattle.x86_groups.specs.declared.byte_tables.TheConstants.{OF, ONE}
 use Rattle.x86_groups.specs.declared.bytes.ByteRow.{ByteRow}
 use Rattle.x86_groups.specs.declared.bytes.Next.{Next}
@@ -39,64 +37,6 @@ use Rattle.x86_groups.specs.Bytes.{ChosenBy, IsByteRow, IsDirect, after_byte, is
 use Rattle.x86_groups.specs.Groups.{record_of}
 use Rattle.x86_groups.specs.Heads.{Continues}
 use Rattle.x86_groups.proofs.HeadLemmas.{begins}
-
--- ---- the sizes that an operation decides
-
--- the size of so many bytes; of another number, this one
-abbrev sized : ℕ → Size → Size
-sized n s =
-    if n == 0 then size.Zero
-    else (if n == 1 then size.One
-    else (if n == 2 then size.Two
-    else (if n == 4 then size.Four
-    else (if n == 8 then size.Eight
-    else (if n == 10 then size.Ten
-    else (if n == 16 then size.Sixteen
-    else s))))))
-
-abbrev size_of : Size → ℕ → Size
-size_of s o = if is_free s then s else sized (named_size s o) s
-
-module _ (o : ℕ) (p : Prefixes) where
-  abbrev HasBytes : ℕ → Size → Type 0
-  HasBytes n s = size_bytes s o p ≡ n
-
-  sized_is : (n : ℕ) (s : Size) → HasBytes n s → HasBytes n (sized n s)
-  sized_is n s h =
-      cond_both (n == 0) size.Zero _ (HasBytes n) (λ e. sym (eqb-true n 0 e)) (λ _.
-      cond_both (n == 1) size.One _ (HasBytes n) (λ e. sym (eqb-true n 1 e)) (λ _.
-      cond_both (n == 2) size.Two _ (HasBytes n) (λ e. sym (eqb-true n 2 e)) (λ _.
-      cond_both (n == 4) size.Four _ (HasBytes n) (λ e. sym (eqb-true n 4 e)) (λ _.
-      cond_both (n == 8) size.Eight _ (HasBytes n) (λ e. sym (eqb-true n 8 e)) (λ _.
-      cond_both (n == 10) size.Ten _ (HasBytes n) (λ e. sym (eqb-true n 10 e)) (λ _.
-      cond_both (n == 16) size.Sixteen s (HasBytes n) (λ e. sym (eqb-true n 16 e)) (λ _. h)))))))
-
-  by_name : (s : Size) → is_free s ≡ false → HasBytes (named_size s o) s
-  by_name size.Call h = refl
-  by_name size.Bare h = refl
-  by_name size.Return h = refl
-  by_name size.Duplicate h = refl
-  by_name size.Stream h = refl
-  by_name size.Scalar h = refl
-  by_name size.Extract h = refl
-  by_name size.Insert h = refl
-  by_name size.Unpack h = refl
-  by_name size.Extend h = refl
-  by_name s h = absurd cc
-
-  same_bytes : (s : Size) → size_bytes (size_of s o) o p ≡ size_bytes s o p
-  same_bytes s =
-      cond_both (is_free s) s (sized (named_size s o) s) (HasBytes (size_bytes s o p)) (λ _. refl)
-      (λ e. sized_is (named_size s o) s (by_name s e) ∙ sym (by_name s e))
-
-  same_in : (memory : Bool) (a b : Size) →
-      size_bytes (if memory then size_of a o else size_of b o) o p ≡ size_bytes (if memory then a else b) o p
-  same_in true a b = same_bytes a
-  same_in false a b = same_bytes b
-
--- a template with the sizes of an operation
-abbrev with_sizes : Template → ℕ → Template
-with_sizes t o = record t { in_memory = size_of t.in_memory o; in_register = size_of t.in_register o }
 
 -- ---- the row of a byte by the printed one
 
@@ -189,30 +129,28 @@ module _ (row : TableRow) (first : TemplateRow) (is : first ≡ first_of (form_r
       fits : is_read_at first.template m ≡ true
       fits = is_read first m sure (placed first.at.place here)
 
-      chosen : (p : Prefixes) → plan_of_row first row p m ≡ form_plan row p m
-      unfolding form_plan
+      chosen : (p : Prefixes) → instance_of_row first row p m ≡ form_instance row p m
+      unfolding form_instance
       chosen p =
           let name = own_name first.names m own in
           let may : may_be first (is_memory m) (reg_field m) ≡ true =
           rw (at_form first.at.place here, any_at first.at.reg (reg_field m) any, name.0) refl in
           let there : is_there (first_of (form_rows row.form)) row false p m ≡ true =
           rw is at (present row false p m first may sure name.1) in
-          ap (λ r. plan_of_row r row p m) (is ∙ sym (first_chosen (form_rows row.form) row false p m there))
+          ap (λ r. instance_of_row r row p m) (is ∙ sym (first_chosen (form_rows row.form) row false p m there))
 
-      of_record : (strict : Bool) (p : Prefixes) → form_plan row p m ≡ (record_of strict row p).plan m
+      of_record : (strict : Bool) (p : Prefixes) → form_instance row p m ≡ (record_of strict row p).instance m
       unfolding form_record
       of_record strict p = rw plain refl
 
-      plan : IsNamed row.opcode → (strict : Bool) (p : Prefixes) →
-          template_plan (with_sizes first.template row.opcode) (carried row.form) (named row.opcode) p m ≡ (record_of strict row p).plan m
-      plan name strict p =
+      instance : (strict : Bool) (p : Prefixes) →
+          template_instance (with_sizes first.template row.opcode) (carried row.form) row.opcode p m ≡ (record_of strict row p).instance m
+      instance strict p =
           let t = first.template in
           let o = row.opcode in
           let n = carried row.form in
-          let number : named o ≡ o = ap (λ b. unwrap_or (if b then Some o else None) Invalid) (lt-ltb o count_of_names name) in
-          ap (λ k. template_plan (with_sizes t o) n k p m) number
-          ∙ ap (λ k. reads o t n p k) (same_in o p (is_memory m) t.in_memory t.in_register)
-          ∙ plan_is first row n o p m sure (own_opcode first.names m own) (λ _. refl) refl
+          sized_instance t n o p m (sizes_are_free t o)
+          ∙ instance_is first row n o p m sure (own_opcode first.names m own) (λ _. refl) refl
           ∙ chosen p ∙ of_record strict p
 
   usage_of : (rows : List TemplateRow) → first ≡ first_of rows → rows_use rows ≡ place_use first.at.place
@@ -240,8 +178,10 @@ module _ (row : TableRow) (first : TemplateRow) (is : first ≡ first_of (form_r
     begins = starts;
     chosen = chosen_by first.at.place (direct row first) (record {
       small = word.form;
+      named = word.opcode;
+      free = sizes_are_free first.template row.opcode;
       fits = λ m here. fits m here;
-      plan = λ m here. plan m here word.opcode;
+      instance = λ m here. instance m here;
     });
   }
 

@@ -1,28 +1,32 @@
 -- The cells of the groups: each is the first row that may be at its mod and reg, where that is sure.
-use Rattle.std.proofs.Common.{true≢false, ◌≡◌, ℕ, zero, suc, ◌<◌, ◌+◌, ◌-◌, ◌==◌, nat_lt, Bool, true, false, not, ◌&&◌, ◌||◌, if◌then◌else◌}
-use Rattle.std.proofs.Common.{List, [], ◌∷◌, length, take, drop, get_or, refl, sym, ap, subst, ◌∙◌, arith, length-drop}
+use Rattle.std.proofs.Common.{true≢false, ◌≡◌, ◌≢◌, ℕ, zero, suc, ◌<◌, ◌+◌, ◌-◌, ◌==◌, nat_lt, Bool, true, false, not, ◌&&◌, ◌||◌, if◌then◌else◌}
+use Rattle.std.proofs.Common.{List, [], ◌∷◌, length, take, drop, get_or, Some, None, unwrap_or, lt-ltb, refl, sym, ap, subst, ◌∙◌, arith, length-drop}
 use Rattle.std.specs.List.{list_all}
-use Rattle.std.proofs.lemmas.Bool.{and_parts, eqb-true, ltb-true, leb-true}
+use Rattle.std.proofs.lemmas.Bool.{and_parts, cond_both, eqb-true, ne_eqb, ltb-true, leb-true}
 use Rattle.std.proofs.lemmas.List.{get_or-drop, get_or-take, get_or_default, length-take-le}
 use Rattle.std.proofs.lemmas.List.Elements.{All-get_or}
 use Rattle.std.proofs.lemmas.List.Sums.{AllPass-from_list_all}
-use Rattle.x86_groups.specs.Vocabulary.{Form, Names, Prefixes, TableRow, is_memory, reg_field}
+use Rattle.x86_groups.specs.Vocabulary.{Form, Names, Prefixes, TableRow, is_memory, reg_field, rm_field}
 use Rattle.x86_forms.specs.declared.Form.TheVariants as form
 use Rattle.x86_forms.specs.Groups.{is_group}
 use Rattle.x86_forms.specs.Ordinals.{first_ordinal_of, ordinal_of}
 use Rattle.x86_forms.specs.Words.{carried}
+use Rattle.x86_opcodes.specs.Names.{Invalid}
+use Rattle.x86_opcodes.specs.Numbers.{IsNamed, count_of_names}
+use Rattle.x86_operands.specs.declared.templates.Template.{Template}
 use Rattle.x86_operands.specs.declared.rows.TemplateRow.{TemplateRow}
-use Rattle.x86_operands.specs.declared.rows.Names.TheVariants.{Name, ByReg, Own}
-use Rattle.x86_operands.specs.Columns.{choose, is_named, is_placed, name_at, named, opcode_of, plan_of_row}
+use Rattle.x86_operands.specs.declared.rows.Names.TheVariants.{Name, ByReg, ByRm, Own}
+use Rattle.x86_operands.specs.Columns.{choose, is_named, is_placed, name_at, named, opcode_of, instance_of_row}
 use Rattle.x86_operands.specs.Forms.{is_searched}
-use Rattle.x86_operands.specs.Plans.{template_plan}
-use Rattle.x86_operands.specs.Templates.{is_read_at}
+use Rattle.x86_operands.specs.Records.{template_instance}
+use Rattle.x86_operands.specs.Templates.{has_free_sizes, is_read_at}
 use Rattle.x86_operands.proofs.HeadLemmas.{if_true, or_true}
-use Rattle.x86_operands.proofs.SureLemmas.{after, chosen, has_free_sizes, is_read, is_sure, may_be, placed_by, plan_is, sizes_by, sure_at}
+use Rattle.x86_operands.proofs.SureLemmas.{after, chosen, is_read, is_sure, may_be, placed_by, instance_is, sure_at}
+use Rattle.x86_operands.proofs.TemplateLemmas.{sizes_by}
 use Rattle.x86_groups.specs.declared.cells.Cell.{Cell}
 use Rattle.x86_groups.specs.declared.tables.TheConstants.{CELLS, CELLS_AT, ROWS, SPANS}
 use Rattle.x86_groups.specs.Bytes.{IsCelled}
-use Rattle.x86_groups.specs.Groups.{group_plan, group_record, record_of}
+use Rattle.x86_groups.specs.Groups.{group_instance, group_record, record_of}
 use Rattle.x86_groups.specs.Heads.{operation_number}
 use Rattle.x86_groups.proofs.HeadLemmas.{span_at}
 
@@ -75,13 +79,19 @@ unfolding sure_at
 cells_are (form.Zv_R n) z = refl
 cells_are f z = refl
 
--- what a sure row of a group has: a name, no size by the operation, and no register of the opcode byte
-abbrev is_named_row : Names → Bool
-is_named_row Own = false
-is_named_row names = true
+-- the numbers of opcodes alone
+abbrev is_number : ℕ → Bool
+is_number n = nat_lt n count_of_names
 
+abbrev has_numbers : Names → Bool
+has_numbers Own = false
+has_numbers (Name n) = is_number n
+has_numbers (ByReg names) = list_all is_number names
+has_numbers (ByRm names) = list_all is_number names
+
+-- what a sure row of a group has: names by numbers, no size that the operation decides, and no register of the opcode byte
 abbrev fits_cell : TemplateRow → Bool
-fits_cell row = is_named_row row.names && (has_free_sizes row.template && not row.template.of_opcode)
+fits_cell row = has_numbers row.names && (has_free_sizes row.template && not row.template.of_opcode)
 
 abbrev may_fit : TemplateRow → Bool
 may_fit row = not (is_sure row) || fits_cell row
@@ -137,11 +147,32 @@ cell_is f k memory z d is low =
     ap (λ cells. get_or cells (if memory then k else k + 8) d) (if_true (is_celled f) (cells_of f z) (cells_by (rows_of f) (first_of f)) [] (cells_are f z) is)
     ∙ in_place (rows_of f) (first_of f) memory d k low
 
-named_by : (names : Names) (own : TableRow) (m : ℕ) → is_named_row names ≡ true →
+-- the number of an operation is that of a name
+zero_named : IsNamed 0
+zero_named = ltb-true 0 count_of_names refl
+
+in_list : (names : List ℕ) (k : ℕ) → list_all is_number names ≡ true → IsNamed (name_at names k)
+in_list [] k h = zero_named
+in_list (n ∷ names) zero h = ltb-true n count_of_names (and_parts (is_number n) _ h).0
+in_list (n ∷ names) (suc k) h = in_list names k (and_parts (is_number n) _ h).1
+
+one_named : (n m : ℕ) → IsNamed n → IsNamed m → IsNamed (if n == 0 then m else n)
+one_named n m h e = cond_both (n == 0) m n IsNamed (λ _. e) (λ _. h)
+
+number_named : (names : Names) (m : ℕ) → has_numbers names ≡ true → IsNamed (operation_number (number_at names (reg_field m)) names m)
+number_named Own m h = absurd cc
+number_named (Name n) m h = one_named n 0 (ltb-true n count_of_names h) zero_named
+number_named (ByReg names) m h = one_named (name_at names (reg_field m)) 0 (in_list names (reg_field m) h) zero_named
+number_named (ByRm names) m h = in_list names (rm_field m) h
+
+named_is : (n : ℕ) → IsNamed n → named n ≡ n
+named_is n h = ap (λ b. unwrap_or (if b then Some n else None) Invalid) (lt-ltb n count_of_names h)
+
+named_by : (names : Names) (own : TableRow) (m : ℕ) → has_numbers names ≡ true →
     opcode_of names own m ≡ named (operation_number (number_at names (reg_field m)) names m)
 named_by names own m h = grind arith
 
-has_name : (names : Names) (m : ℕ) → is_named_row names ≡ true → (operation_number (number_at names (reg_field m)) names m == 0) ≡ false →
+has_name : (names : Names) (m : ℕ) → has_numbers names ≡ true → (operation_number (number_at names (reg_field m)) names m == 0) ≡ false →
     is_named names m ≡ true
 has_name names m h e = grind arith
 
@@ -157,6 +188,13 @@ in_table f n d low =
     let short : n < (span_of f).1 - first_of f = subst (λ k. n < k) taken low in
     get_or-take ((span_of f).1 - first_of f) (drop (first_of f) ROWS.now) n d short ∙ get_or-drop (first_of f) ROWS.now n d
 
+-- What the row of a cell is at a ModRM byte: its template, with the number of its operation.
+pub record IsRowOf (row : TableRow) (register m number : ℕ) (t : Template) : Type 0 where
+  pub named : IsNamed number
+  pub free : has_free_sizes t ≡ true
+  pub fits : is_read_at t m ≡ true
+  pub instance : (strict : Bool) (p : Prefixes) → template_instance t register number p m ≡ (record_of strict row p).instance m
+
 module _ (row : TableRow) (register m : ℕ) (group : is_group row.form ≡ true) (searched : is_searched row.form ≡ false) where
   abbrev f : Form
   f = row.form
@@ -166,14 +204,16 @@ module _ (row : TableRow) (register m : ℕ) (group : is_group row.form ≡ true
 
   -- a row of this number, if it has an operation
   abbrev SureRowOf : ℕ → TemplateRow → Type 0
-  SureRowOf number here = (operation_number number here.names m == 0) ≡ false →
-      (is_read_at here.template m ≡ true)
-      × ((strict : Bool) (p : Prefixes) → template_plan here.template register (named (operation_number number here.names m)) p m ≡
-      group_plan row p m strict)
+  SureRowOf number here =
+      (operation_number number here.names m == 0) ≡ false → IsRowOf row register m (operation_number number here.names m) here.template
+
+  instance_same : (strict : Bool) (p : Prefixes) → group_instance row p m strict ≡ (record_of strict row p).instance m
+  unfolding group_record
+  instance_same strict p = rw group refl
 
   from_sure : (k n : ℕ) (d : TemplateRow) → sure_at (rows_of f) (is_memory m) (reg_field m) ≡ k → k ≡ suc n →
       SureRowOf (number_in (rows_of f) n (reg_field m)) (get_or ROWS.now (first_of f + n) d)
-  unfolding group_plan
+  unfolding group_instance
   from_sure k n d e is =
       let at = is_at m d (rows_of f) n (e ∙ is) in
       let here : TemplateRow = get_or (rows_of f) n d in
@@ -181,19 +221,25 @@ module _ (row : TableRow) (register m : ℕ) (group : is_group row.form ≡ true
       let fits : fits_cell here ≡ true = or_true (is_sure here) (fits_cell here)
       (All-get_or (λ r. may_fit r ≡ true) (rows_of f) n d at.inside
       (AllPass-from_list_all may_fit (rows_of f) (or_true (is_celled f) _ (rows_fit f) celled))) at.sure in
-      let parts = and_parts (is_named_row here.names) _ fits in
+      let parts = and_parts (has_numbers here.names) _ fits in
       let free = and_parts (has_free_sizes here.template) (not here.template.of_opcode) parts.1 in
       subst (SureRowOf number) (in_table f n d at.inside) (λ some.
-      let name = has_name here.names m parts.0 (subst (λ k. (operation_number k here.names m == 0) ≡ false) at.number some) in (
-        is_read here m at.sure at.placed,
-        λ strict p.
-            plan_is here row register (named (operation_number number here.names m)) p m at.sure
-            (named_by here.names row m parts.0 ∙ ap (λ k. named (operation_number k here.names m)) (sym at.number))
+      let o = operation_number number here.names m in
+      let same : o ≡ operation_number (number_at here.names (reg_field m)) here.names m = ap (λ k. operation_number k here.names m) at.number in
+      let name = has_name here.names m parts.0 (subst (λ k. (k == 0) ≡ false) same some) in
+      let is_name : IsNamed o = subst IsNamed (sym same) (number_named here.names m parts.0) in
+      record {
+        named = is_name;
+        free = free.0;
+        fits = is_read here m at.sure at.placed;
+        instance = λ strict p.
+            instance_is here row register o p m at.sure (named_by here.names row m parts.0 ∙ ap named (sym same) ∙ named_is o is_name)
             (no_number here.template.of_opcode register (carried f) free.1)
-            (sizes_by here.template m (named (operation_number number here.names m)) row.opcode p free.0)
-            ∙ ap (λ first. plan_of_row first row p m)
-            (sym (chosen row strict p m (rows_of f) n d (e ∙ is) name) ∙ ap (λ rows. choose rows row strict p m) (span_at f (0, 0)).rows),
-      ))
+            (sizes_by here.template m o p free.0 ∙ sym (sizes_by here.template m row.opcode p free.0))
+            ∙ ap (λ first. instance_of_row first row p m)
+            (sym (chosen row strict p m (rows_of f) n d (e ∙ is) name) ∙ ap (λ rows. choose rows row strict p m) (span_at f (0, 0)).rows)
+            ∙ instance_same strict p;
+      })
 
   abbrev SureCell : Cell → TemplateRow → Type 0
   SureCell cell d = SureRowOf cell.number (get_or ROWS.now cell.row d)
@@ -202,18 +248,10 @@ module _ (row : TableRow) (register m : ℕ) (group : is_group row.form ≡ true
   from_cell zero d e h = absurd (true≢false h)
   from_cell (suc n) d e h = from_sure (suc n) n d e refl h
 
-  plan_same : (strict : Bool) (p : Prefixes) → group_plan row p m strict ≡ (record_of strict row p).plan m
-  unfolding group_record
-  plan_same strict p = rw group refl
-
-  pub cell_is_sure : (cell : Cell) (d : TemplateRow) → cell ≡ cell_by (rows_of f) (first_of f) (is_memory m) (reg_field m) →
+  cell_is_sure : (cell : Cell) (d : TemplateRow) → cell ≡ cell_by (rows_of f) (first_of f) (is_memory m) (reg_field m) →
       (operation_number cell.number (get_or ROWS.now cell.row d).names m == 0) ≡ false →
-      (is_read_at (get_or ROWS.now cell.row d).template m ≡ true)
-      × ((strict : Bool) (p : Prefixes) → template_plan (get_or ROWS.now cell.row d).template register
-      (named (operation_number cell.number (get_or ROWS.now cell.row d).names m)) p m ≡ (record_of strict row p).plan m)
-  cell_is_sure cell d e h =
-      let both = subst (λ cell. SureCell cell d) (sym e) (from_cell (sure_at (rows_of f) (is_memory m) (reg_field m)) d refl) h in
-      (both.0, λ strict p. both.1 strict p ∙ plan_same strict p)
+      IsRowOf row register m (operation_number cell.number (get_or ROWS.now cell.row d).names m) (get_or ROWS.now cell.row d).template
+  cell_is_sure cell d e h = subst (λ cell. SureCell cell d) (sym e) (from_cell (sure_at (rows_of f) (is_memory m) (reg_field m)) d refl) h
 
 -- ---- the places
 
@@ -262,7 +300,7 @@ row_below n k z d below low =
     (AllPass-from_list_all (λ cell. nat_lt cell.row (length ROWS.now)) cells each))
 
 -- the cell of a group at a ModRM byte
-pub cell_at : (n : ℕ) (f : Form) (m at : ℕ) (z : List Cell) (c : Cell) (d : ℕ) → IsCelled n f → reg_field m < 8 →
+cell_at : (n : ℕ) (f : Form) (m at : ℕ) (z : List Cell) (c : Cell) (d : ℕ) → IsCelled n f → reg_field m < 8 →
     at ≡ (if is_memory m then reg_field m else reg_field m + 8) →
     get_or (get_or CELLS.now (get_or CELLS_AT.now n d) z) at c ≡ cell_by (rows_of f) (first_of f) (is_memory m) (reg_field m)
 cell_at n f m at z c d is low place =
@@ -270,3 +308,18 @@ cell_at n f m at z c d is low place =
     ap (λ n. get_or (get_or CELLS.now n z) at c) (cells_at n f is d)
     ∙ ap (λ n. get_or (cells_of f z) n c) place
     ∙ cell_is f (reg_field m) (is_memory m) z c celled low
+
+-- the row of the cell of a group at a ModRM byte, where it has an operation
+module _ (n d at number m : ℕ) (row : TableRow) (z : List Cell) (c : Cell) (r : TemplateRow) where
+  abbrev cell : Cell
+  cell = get_or (get_or CELLS.now (get_or CELLS_AT.now n d) z) at c
+
+  abbrev row_of : TemplateRow
+  row_of = get_or ROWS.now cell.row r
+
+  pub row_of_cell : IsCelled n row.form → reg_field m < 8 → at ≡ (if is_memory m then reg_field m else reg_field m + 8) →
+      number ≡ operation_number cell.number row_of.names m → number ≢ 0 → IsRowOf row 0 m number row_of.template
+  row_of_cell is low place same some =
+      subst (λ k. IsRowOf row 0 m k row_of.template) (sym same)
+      (cell_is_sure row 0 m is.group is.celled cell r (cell_at n row.form m at z c d is low place)
+      (subst (λ k. (k == 0) ≡ false) same (ne_eqb number 0 some)))

@@ -6,10 +6,10 @@ use Rattle.x86_groups.specs.Vocabulary.{Prefixes, TableRow, Form, ModrmUse, reg_
 use Rattle.x86_forms.specs.Groups.{is_group}
 use Rattle.x86_forms.specs.declared.Form.TheVariants as form
 use Rattle.x86_opcodes.specs.Names.{LFENCE, MFENCE, SFENCE}
-use Rattle.x86_operands.specs.Asks.{ask_of, plan_ask, used_modrm}
+use Rattle.x86_operands.specs.Asks.{ask_of, instance_ask, used_modrm}
 use Rattle.x86_operands.specs.declared.rows.Rm.TheVariants as rms
-use Rattle.x86_operands.specs.Columns.{choose, is_named, is_placed, is_prefixed, is_reg, is_rm, is_there, name_at, plan_of_row}
-use Rattle.x86_groups.specs.Groups.{NamesFence, lfence, mfence, sfence, IsFenceWithRm, group_modrm, group_plan, group_record, operandless}
+use Rattle.x86_operands.specs.Columns.{choose, is_named, is_placed, is_prefixed, is_reg, is_rm, is_there, name_at, instance_of_row}
+use Rattle.x86_groups.specs.Groups.{NamesFence, lfence, mfence, sfence, IsFenceWithRm, group_modrm, group_instance, group_record, operandless}
 use Rattle.x86_groups.specs.Groups.{bad_operand, record_of}
 use Rattle.x86_groups.specs.Rows.{group_rows}
 use Rattle.x86_operands.proofs.ColumnLemmas.{chosen_alike}
@@ -67,43 +67,43 @@ same_or_fence form.ModRM_0x0fae own p m = elim (cases_Bool (list_all (same_row o
 ]
 same_or_fence f own p m = inl refl
 
--- ---- plans
+-- ---- instances
 
-pub same_elsewhere : (row : TableRow) (p : Prefixes) (m : ℕ) → (group_plan row p m true ≡ group_plan row p m false) ⊎ IsFenceWithRm row.form p m
-unfolding group_plan
+pub same_elsewhere : (row : TableRow) (p : Prefixes) (m : ℕ) → (group_instance row p m true ≡ group_instance row p m false) ⊎ IsFenceWithRm row.form p m
+unfolding group_instance
 same_elsewhere row p m = elim (same_or_fence row.form row p m) [
-  | inl e ↦ inl (ap (λ chosen. plan_of_row chosen row p m) e)
+  | inl e ↦ inl (ap (λ chosen. instance_of_row chosen row p m) e)
   | inr h ↦ inr h
 ]
 
 module _ (row : TableRow) (p : Prefixes) (m : ℕ) (h : IsFenceWithRm row.form p m) where
-  by_default : (o : ℕ) → NamesFence m o → plan_of_row (choose (group_rows form.ModRM_0x0fae) row false p m) row p m ≡ operandless o p
+  by_default : (o : ℕ) → NamesFence m o → instance_of_row (choose (group_rows form.ModRM_0x0fae) row false p m) row p m ≡ operandless o p
   unfolding group_rows
   by_default o (lfence e) = rw (h.no_f2, h.no_f3, h.no_66, h.register, e) (rw e refl)
   by_default o (mfence e) = rw (h.no_f2, h.no_f3, h.no_66, h.register, e) (rw e refl)
   by_default o (sfence e) = rw (h.no_f2, h.no_f3, h.no_66, h.register, e) (rw e refl)
 
-  strictly : (o : ℕ) → NamesFence m o → plan_of_row (choose (group_rows form.ModRM_0x0fae) row true p m) row p m ≡ bad_operand p
+  strictly : (o : ℕ) → NamesFence m o → instance_of_row (choose (group_rows form.ModRM_0x0fae) row true p m) row p m ≡ bad_operand p
   unfolding group_rows
   strictly o (lfence e) = rw (h.no_f2, h.no_f3, h.no_66, h.register, ne_eqb (rm_field m) 0 h.other_rm, e) refl
   strictly o (mfence e) = rw (h.no_f2, h.no_f3, h.no_66, h.register, ne_eqb (rm_field m) 0 h.other_rm, e) refl
   strictly o (sfence e) = rw (h.no_f2, h.no_f3, h.no_66, h.register, ne_eqb (rm_field m) 0 h.other_rm, e) refl
 
-  pub fence_by_default : group_plan row p m false ≡ operandless h.opcode p
-  unfolding group_plan
-  fence_by_default = ap (λ f. plan_of_row (choose (group_rows f) row false p m) row p m) h.group ∙ by_default h.opcode h.named
+  pub fence_by_default : group_instance row p m false ≡ operandless h.opcode p
+  unfolding group_instance
+  fence_by_default = ap (λ f. instance_of_row (choose (group_rows f) row false p m) row p m) h.group ∙ by_default h.opcode h.named
 
-  pub fence_strictly : group_plan row p m true ≡ bad_operand p
-  unfolding group_plan
-  fence_strictly = ap (λ f. plan_of_row (choose (group_rows f) row true p m) row p m) h.group ∙ strictly h.opcode h.named
+  pub fence_strictly : group_instance row p m true ≡ bad_operand p
+  unfolding group_instance
+  fence_strictly = ap (λ f. instance_of_row (choose (group_rows f) row true p m) row p m) h.group ∙ strictly h.opcode h.named
 
 -- what a group has is the same under both choices
 pub same_ask : (usage : ModrmUse) (at : ℕ) (row : TableRow) (strict : Bool) (p : Prefixes) (m : ℕ) →
-    plan_ask usage at (group_plan row p m strict) ≡ plan_ask usage at (group_plan row p m false)
+    instance_ask usage at (group_instance row p m strict) ≡ instance_ask usage at (group_instance row p m false)
 same_ask usage at row false p m = refl
 same_ask usage at row true p m = elim (same_elsewhere row p m) [
-  | inl e ↦ ap (plan_ask usage at) e
-  | inr h ↦ ap (plan_ask usage at) (fence_strictly row p m h) ∙ sym (ap (plan_ask usage at) (fence_by_default row p m h))
+  | inl e ↦ ap (instance_ask usage at) e
+  | inr h ↦ ap (instance_ask usage at) (fence_strictly row p m h) ∙ sym (ap (instance_ask usage at) (fence_by_default row p m h))
 ]
 
 -- and so is what a row has

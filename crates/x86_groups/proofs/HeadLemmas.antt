@@ -7,7 +7,7 @@ use Rattle.x86_forms.specs.declared.words.WordRow.{WordRow}
 use Rattle.x86_forms.specs.Ordinals.{first_ordinal_of}
 use Rattle.x86_operands.specs.declared.templates.Template.{Template}
 use Rattle.x86_operands.specs.Forms.{Follows, IsPlainRow, form_record, is_searched}
-use Rattle.x86_operands.specs.Plans.{template_plan}
+use Rattle.x86_operands.specs.Records.{template_instance}
 use Rattle.x86_operands.specs.Templates.{is_sound_row}
 use Rattle.x86_groups.specs.declared.tables.TheConstants.{ROWS, SPANS}
 use Rattle.x86_groups.specs.Groups.{group_fault, group_modrm, group_record, record_of}
@@ -43,6 +43,6 @@ begins After.Cells strict row p h = rw h.0 (no_fault_at row.form p h.1, either_a
 begins After.Search strict row p h = tt
 
 pub plain_is : (found : WordRow) (m : ℕ) (t : Template) → IsPlainRow found m t → (strict : Bool) (p : Prefixes) →
-    template_plan t found.number found.row.opcode p m ≡ (record_of strict found.row p).plan m
+    template_instance t found.number found.row.opcode p m ≡ (record_of strict found.row p).instance m
 unfolding form_record
-plain_is found m t h strict p = rw h.plain (h.plan p)
+plain_is found m t h strict p = rw h.plain (h.instance p)

@@ -8,10 +8,10 @@ use Rattle.x86_groups.specs.declared.bytes.Choice.{Choice}
 use Rattle.x86_groups.specs.declared.bytes.Choice.TheVariants as choice
 use Rattle.x86_forms.specs.Groups.{is_group}
 use Rattle.x86_forms.specs.Ordinals.{ordinal_of}
-use Rattle.x86_operands.specs.Columns.{named}
+use Rattle.x86_opcodes.specs.Numbers.{IsNamed}
 use Rattle.x86_operands.specs.Forms.{is_searched}
-use Rattle.x86_operands.specs.Plans.{template_plan}
-use Rattle.x86_operands.specs.Templates.{is_read_at}
+use Rattle.x86_operands.specs.Records.{template_instance}
+use Rattle.x86_operands.specs.Templates.{has_free_sizes, is_read_at}
 use Rattle.x86_groups.specs.Groups.{record_of}
 use Rattle.x86_groups.specs.Heads.{Continues}
 
@@ -40,12 +40,14 @@ pub record IsCelled (n : ℕ) (f : Form) : Type 0 where
   pub celled : is_searched f ≡ false
   pub numbered : n ≡ 1 + ordinal_of f
 
--- where form and mod alone choose the row, the template says its plan
+-- where form and mod alone choose the row, the template says its instance
 pub record IsDirect (b : ByteRow) (row : TableRow) : Type 0 where
   pub small : b.register < 8
+  pub named : IsNamed b.operation
+  pub free : has_free_sizes b.template ≡ true
   pub fits : (m : ℕ) → is_direct_at b.next m ≡ true → is_read_at b.template m ≡ true
-  pub plan : (m : ℕ) → is_direct_at b.next m ≡ true → (strict : Bool) (p : Prefixes) →
-      template_plan b.template b.register (named b.operation) p m ≡ (record_of strict row p).plan m
+  pub instance : (m : ℕ) → is_direct_at b.next m ≡ true → (strict : Bool) (p : Prefixes) →
+      template_instance b.template b.register b.operation p m ≡ (record_of strict row p).instance m
 
 abbrev pub ChosenBy : Next → ByteRow → TableRow → Type 0
 ChosenBy (Chosen choice.Search) b row = ⊤

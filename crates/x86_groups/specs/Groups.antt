@@ -6,12 +6,13 @@ use Rattle.x86_groups.specs.Vocabulary.{Prefixes, Fault, BadOpcode, BadOperand, 
 use Rattle.x86_groups.specs.Vocabulary.{rep, repnz, reg_field, rm_field, is_memory, operand_size}
 use Rattle.x86_fields.specs.Prefixes.{operand_size, address_size, lock, segment, rex}
 use Rattle.x86_forms.specs.Groups.{is_group}
-use Rattle.x86_operands.specs.Plans.{Plan, RowRecord, reads}
+use Rattle.x86_operands.specs.Orders.{E}
+use Rattle.x86_operands.specs.Records.{Instance, RowRecord, reads}
 use Rattle.x86_operands.specs.Forms.{form_record}
 use Rattle.x86_forms.specs.declared.Form.TheVariants as form
-use Rattle.x86_operands.specs.Columns.{choose, plan_of_row}
-use Rattle.x86_operands.specs.Words.{AfterAddress, M, Zero}
-use Rattle.x86_operands.specs.declared.plans.OperandEncoding.{OperandEncoding}
+use Rattle.x86_operands.specs.Columns.{choose, instance_of_row}
+use Rattle.x86_operands.specs.Words.{M, Zero}
+use Rattle.x86_operands.specs.declared.vocabulary.OperandEncoding.{OperandEncoding}
 use Rattle.x86_groups.specs.Rows.{group_rows}
 use Rattle.x86_opcodes.specs.Names.{Invalid, LFENCE, MFENCE, SFENCE}
 
@@ -40,14 +41,14 @@ group_modrm form.Cq_Rq_0 = Registers
 group_modrm form.Dq_Rq_0 = Registers
 group_modrm f = EitherForm
 
--- ---- the plan and the record of a row whose form is a group
+-- ---- the instance and the record of a row whose form is a group
 
 -- under the prefixes, at a ModRM byte and under the choice
-unfoldable pub group_plan : TableRow → Prefixes → ℕ → Bool → Plan
-group_plan row p m strict = plan_of_row (choose (group_rows row.form) row strict p m) row p m
+unfoldable pub group_instance : TableRow → Prefixes → ℕ → Bool → Instance
+group_instance row p m strict = instance_of_row (choose (group_rows row.form) row strict p m) row p m
 
 unfoldable pub group_record : Bool → TableRow → Prefixes → RowRecord
-group_record strict row p = record { at_opcode = group_fault row.form p; modrm = group_modrm row.form; plan = λ m. group_plan row p m strict }
+group_record strict row p = record { at_opcode = group_fault row.form p; modrm = group_modrm row.form; instance = λ m. group_instance row p m strict }
 
 -- ---- the record of a row, under the choice
 
@@ -55,19 +56,19 @@ abbrev pub record_of : Bool → TableRow → Prefixes → RowRecord
 record_of strict row p = if is_group row.form then group_record strict row p else form_record row p
 
 -- no operand and no memory, and a refusal of the operand after ModRM
-abbrev pub operandless : ℕ → Prefixes → Plan
+abbrev pub operandless : ℕ → Prefixes → Instance
 operandless opcode p = reads opcode Zero 0 p 0
 
-abbrev pub bad_operand : Prefixes → Plan
+abbrev pub bad_operand : Prefixes → Instance
 bad_operand p = record (operandless Invalid p) { verdict = Refuses BadOperand }
 
 -- the parts that operands are
-abbrev pub operand_encodings : Plan → List OperandEncoding
-operand_encodings plan = plan.rm ∷ plan.reg ∷ plan.last ∷ plan.extra ∷ []
+abbrev pub operand_encodings : Instance → List OperandEncoding
+operand_encodings instance = instance.rm ∷ instance.reg ∷ instance.last ∷ instance.extra ∷ []
 
 -- its one operand is memory at ModRM's address
-abbrev pub TakesAddress : Plan → Type 0
-TakesAddress plan = (plan.order ≡ AfterAddress.order) × (plan.rm ≡ M)
+abbrev pub TakesAddress : Instance → Type 0
+TakesAddress instance = (instance.order ≡ E) × (instance.rm ≡ M)
 
 -- ---- where the choices differ. Source: Intel SDM volume 2, appendix A.4, group 15
 

@@ -2,10 +2,10 @@
 use Rattle.std.specs.Prelude.{ℕ, ◌<◌, Bool, true, None, ◌≡◌, ◌==◌, if◌then◌else◌, ⊤}
 use Rattle.x86_groups.specs.Vocabulary.{After, EitherForm, Names, Prefixes, TableRow, rm_field}
 use Rattle.x86_groups.specs.declared.rows.SureRow.{SureRow}
-use Rattle.x86_operands.specs.declared.plans.ModrmUse.TheVariants.{Absent}
+use Rattle.x86_operands.specs.declared.vocabulary.ModrmUse.TheVariants.{Absent}
 use Rattle.x86_operands.specs.declared.rows.Names.TheVariants.{ByRm}
 use Rattle.x86_operands.specs.Columns.{name_at}
-use Rattle.x86_operands.specs.Plans.{RowRecord, template_plan}
+use Rattle.x86_operands.specs.Records.{RowRecord, template_instance}
 use Rattle.x86_operands.specs.Templates.{is_read_at}
 use Rattle.x86_groups.specs.Groups.{record_of}
 
@@ -28,7 +28,7 @@ pub record IsReadAt (m : ℕ) (u : SureRow) : Type 0 where
   pub small : u.register < 8
   pub fits : is_read_at u.template.now m ≡ true
 
--- Its template says the plan of the row in the opcode map at this ModRM byte.
+-- Its template says the instance of the row in the opcode map at this ModRM byte.
 pub record IsSure (row : TableRow) (m : ℕ) (u : SureRow) : Type 0 where
   pub at_once : IsReadAt m u
-  pub plan : (strict : Bool) (p : Prefixes) → template_plan u.template.now u.register u.opcode p m ≡ (record_of strict row p).plan m
+  pub instance : (strict : Bool) (p : Prefixes) → template_instance u.template.now u.register u.opcode p m ≡ (record_of strict row p).instance m

@@ -4,7 +4,7 @@
 -- (mem the memory forms of ModRM, reg the register forms, both; at a reg, or at a reg and an rm), the prefixes, the
 -- name or the names of eight regs or rms (`none` where the row isn't), the operands, and the memory size (of the
 -- memory form, and of the register form). A row that is refused has the error, and what it takes before. Of
--- x86_operands, specs/Words.antt has the words, specs/Columns.antt what they mean, and specs/PlanSteps.antt what the
+-- x86_operands, specs/Words.antt has the words, specs/Columns.antt what they mean, and specs/RowSteps.antt what the
 -- letters mean.
 use Rattle.std.specs.Prelude.{List, [], ◌∷◌}
 use Rattle.x86_opcodes.specs.Names.{ADC, ADD, AESDEC128KL, AESDEC256KL, AESDECWIDE128KL, AESDECWIDE256KL, AESENC128KL, AESENC256KL}
@@ -31,7 +31,7 @@ use Rattle.x86_opcodes.specs.Names.{XRSTORS, XRSTORS64, XSAVE, XSAVEC, XSAVEC64,
 use Rattle.x86_fields.specs.declared.sizes.Width.TheVariants.{B, W, D, Q, X, V, Vq, Dq}
 use Rattle.x86_groups.specs.Vocabulary.{Form, BadOpcode, BadOperand, Incomplete, ClearsOperandSize, Own, Name, TemplateRow}
 use Rattle.x86_forms.specs.declared.Form.TheVariants as form
-use Rattle.x86_operands.specs.declared.plans.OperandEncoding.TheVariants.{E, G, Gmm, Emm, Cr, Dr, I8, U8, Iv, X8, Jv, StRm, RdInReg}
+use Rattle.x86_operands.specs.declared.vocabulary.OperandEncoding.TheVariants.{E, G, Gmm, Emm, Cr, Dr, I8, U8, Iv, X8, Jv, StRm, RdInReg}
 use Rattle.x86_operands.specs.declared.rows.When.TheVariants.{Always, NoPrefix, NoRepeat, Only66, F2, F3, With66, RexW, RexR}
 use Rattle.x86_operands.specs.Columns.{none}
 use Rattle.x86_operands.specs.Words.{mem, reg, both, mem_at, reg_at, both_at, reg_from, reg_rm, rm_at, strict_rm, by_reg, by_rm, M, U, Umm}

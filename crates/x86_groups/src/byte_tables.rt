@@ -6,8 +6,10 @@
 use crate::bytes::Choice::{Cells, Memory, Register, Search};
 use crate::bytes::Next::{Chosen, Either, Nothing};
 use crate::bytes::{ByteRow, direct, other};
-use x86_operands::plans::OperandEncoding::{ConstantU8, I8, I32, Implied, Ip, Iv, Ivq, U8, U16};
-use x86_operands::plans::{OperandEncoding, RegisterSlot};
+use x86_operands::vocabulary::OperandEncoding::{
+    ConstantU8, I8, I32, Implied, Ip, Iv, Ivq, U8, U16,
+};
+use x86_operands::vocabulary::{OperandEncoding, RegisterSlot};
 use x86_regs::RegisterClass;
 
 const ABSENT: OperandEncoding = OperandEncoding::ABSENT;

@@ -1,13 +1,14 @@
 //! The rows of opcode bytes that no legacy prefix precedes, and that follow nothing or 0F: what follows the byte, and what
 //! is read there, where form, mod and reg alone choose the row.
 
-ghost use Rattle.std.specs.Prelude.{◌≡◌, IfSome};
+ghost use Rattle.std.specs.Prelude.{◌≡◌, true, IfSome};
 ghost use Rattle.x86_forms.specs.declared.Map.{Map};
 ghost use Rattle.x86_forms.specs.declared.Column.{Column};
 ghost use Rattle.x86_forms.specs.declared.TableRow.{TableRow};
 ghost use Rattle.x86_forms.specs.Rows.{printed_row};
 ghost use Rattle.x86_groups.specs.Bytes.{IsByteRow, IsListed, is_chosen_at, is_direct_at, says};
 ghost use Rattle.x86_groups.specs.Heads.{IsReadAt, IsSure};
+ghost use Rattle.x86_operands.specs.Templates.{has_free_sizes};
 
 use crate::byte_tables::{OF, ONE};
 use crate::cells::cell_row;
@@ -149,6 +150,7 @@ pub fn sure_byte_row(row: &'static ByteRow, modrm: ModRM) -> Option<SureRow<'sta
     ensures sure { (found : TableRow) → IsByteRow row.now found →
         IfSome result (IsSure found modrm) }
     ensures at_once { IfSome result (IsReadAt modrm) }
+    ensures free { IfSome result (λ sure. has_free_sizes sure.template.now ≡ true) }
 {
     if let Next::Chosen(Choice::Cells(form_number)) = row.next {
         return cell_row(form_number as usize, modrm);
@@ -156,9 +158,8 @@ pub fn sure_byte_row(row: &'static ByteRow, modrm: ModRM) -> Option<SureRow<'sta
     if !row.next.is_direct_at(modrm) {
         return None;
     }
-    let opcode = Opcode::from_number(row.operation as u64)?;
     Some(SureRow {
-        opcode,
+        opcode: Opcode::numbered(row.operation),
         register: row.register,
         template: &row.template,
     })

@@ -6,6 +6,7 @@ ghost use Rattle.x86_forms.specs.declared.Form.{Form};
 ghost use Rattle.x86_forms.specs.declared.TableRow.{TableRow};
 ghost use Rattle.x86_groups.specs.Bytes.{IsCelled};
 ghost use Rattle.x86_groups.specs.Heads.{IsSure, operation_number};
+ghost use Rattle.x86_operands.specs.Templates.{has_free_sizes};
 
 use crate::rows::SureRow;
 use crate::tables::{CELLS, CELLS_AT, ROWS};
@@ -68,8 +69,9 @@ fn cell_index(modrm: ModRM) -> usize
 #[inline(always)]
 pub(crate) fn cell_row(form_number: usize, modrm: ModRM) -> Option<SureRow<'static>>
     requires { (form : Form) × IsCelled form_number form }
-    ensures { (found : TableRow) → IsCelled form_number found.form →
+    ensures sure { (found : TableRow) → IsCelled form_number found.form →
         IfSome result (IsSure found modrm) }
+    ensures free { IfSome result (λ sure. has_free_sizes sure.template.now ≡ true) }
 {
     let group = CELLS_AT[form_number];
     let cell = &CELLS[group as usize][cell_index(modrm)];
@@ -79,7 +81,7 @@ pub(crate) fn cell_row(form_number: usize, modrm: ModRM) -> Option<SureRow<'stat
         return None;
     }
     Some(SureRow {
-        opcode: Opcode::from_number(number as u64).unwrap_or(Opcode::Invalid),
+        opcode: Opcode::numbered(number),
         register: 0,
         template: &row.template,
     })

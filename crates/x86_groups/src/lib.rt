@@ -8,8 +8,8 @@ ghost use Rattle.std.specs.Prelude.{◌≡◌, true};
 ghost use Rattle.x86_arch.specs.Reader.{State};
 ghost use Rattle.x86_fields.specs.Steps.{outcome};
 ghost use Rattle.x86_forms.specs.Groups.{is_group};
-ghost use Rattle.x86_operands.specs.PlanSteps.{no_operands, reading_with, record_step};
-ghost use Rattle.x86_operands.specs.Places.{plan_placed, record_placed};
+ghost use Rattle.x86_operands.specs.RowSteps.{no_operands, reading_with, record_step};
+ghost use Rattle.x86_operands.specs.Places.{instance_placed, record_placed};
 ghost use Rattle.x86_operands.specs.OperandList.{value_if_ok};
 ghost use Rattle.x86_forms.specs.Words.{IsForm};
 ghost use Rattle.x86_groups.specs.Groups.{group_record, record_of};
@@ -31,7 +31,7 @@ use x86_opcodes::Opcode;
 use x86_operands::{Operands, Places, Reading, read_modrm, refuse_fault};
 
 /// What a row has after a ModRM byte, written into blank operands, and the places of its parts.
-#[tactic(auto, using(x86_operands::proofs::PlaceLemmas::plan_is_placed))]
+#[tactic(auto, using(x86_operands::proofs::PlaceLemmas::instance_is_placed))]
 pub fn read_after_modrm<T: Reader<u64, u8>>(
     reader: &mut T,
     row: &TableRow,
@@ -46,8 +46,8 @@ pub fn read_after_modrm<T: Reader<u64, u8>>(
     requires blank { operand_list.old ≡ no_operands }
     ensures { outcome
         (value_if_ok result (reading_with opcode.new prefixes.new operand_list.new, places.new))
-        (T.state reader.new) ≡ plan_placed places.old.opcode_end
-        ((record_of strict row.now prefixes.old).plan modrm) prefixes.old modrm
+        (T.state reader.new) ≡ instance_placed places.old.opcode_end
+        ((record_of strict row.now prefixes.old).instance modrm) prefixes.old modrm
         (T.state reader.old) }
 {
     let chosen = chosen_row(row, strict, prefixes, modrm);
@@ -88,7 +88,7 @@ pub fn read_row_into<T: Reader<u64, u8>>(
 }
 
 /// What a row has after its opcode byte.
-#[tactic(auto, unfolding(x86_operands::specs::PlanSteps::record_step))]
+#[tactic(auto, unfolding(x86_operands::specs::RowSteps::record_step))]
 pub fn read_row<T: Reader<u64, u8>>(
     reader: &mut T,
     row: TableRow,

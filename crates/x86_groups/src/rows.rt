@@ -7,7 +7,7 @@ ghost use Rattle.x86_fields.specs.declared.prefixes.Prefixes.{Prefixes};
 ghost use Rattle.x86_forms.specs.Groups.{is_group};
 ghost use Rattle.x86_forms.specs.Words.{IsForm};
 ghost use Rattle.x86_operands.specs.Asks.{ask_of, record_at};
-ghost use Rattle.x86_operands.specs.Columns.{is_placed, plan_of_row};
+ghost use Rattle.x86_operands.specs.Columns.{is_placed, instance_of_row};
 ghost use Rattle.x86_operands.specs.Templates.{is_sound_row};
 ghost use Rattle.x86_groups.specs.Groups.{group_record, record_of};
 ghost use Rattle.x86_groups.specs.Heads.{Continues, IsSure};
@@ -18,8 +18,8 @@ use crate::tables::{ROWS, SPANS};
 use x86_fields::{ModRM, Prefixes};
 use x86_forms::{Form, TableRow, WordRow};
 use x86_opcodes::Opcode;
-use x86_operands::plans::{Fault, ModrmUse};
 use x86_operands::rows::{TemplateRow, choose};
+use x86_operands::vocabulary::{Fault, ModrmUse};
 use x86_operands::{After, Ask, RecordAt, Template, form_modrm, plain_row, used_modrm};
 use x86_regs::Segment;
 
@@ -112,15 +112,15 @@ pub(crate) fn row_modrm(row: &TableRow) -> ModrmUse
 }
 
 /// The row at a ModRM byte; `own` is the row in the opcode map.
-#[tactic(auto, unfolding(crate::specs::Groups::group_record, crate::specs::Groups::group_plan))]
+#[tactic(auto, unfolding(crate::specs::Groups::group_record, crate::specs::Groups::group_instance))]
 pub(crate) fn chosen_row(
     own: &TableRow,
     strict: bool,
     prefixes: &Prefixes,
     modrm: ModRM,
 ) -> TemplateRow
-    ensures plan { plan_of_row result own.now prefixes.now modrm
-        ≡ (record_of strict own.now prefixes.now).plan modrm }
+    ensures instance { instance_of_row result own.now prefixes.now modrm
+        ≡ (record_of strict own.now prefixes.now).instance modrm }
     ensures sound { is_sound_row result ≡ true }
     ensures placed { is_placed result.at.place modrm ≡ true }
 {
@@ -136,7 +136,7 @@ pub(crate) fn chosen_row(
 ///
 /// For the row of F7 at ModRM C0, which is TEST, this is a ModRM, and an immediate of 4 bytes without 66.
 #[inline(never)]
-#[tactic(auto, using(crate::proofs::ChoiceLemmas::row_same_ask), unfolding(x86_operands::specs::Asks::ask_of))]
+#[tactic(auto, using(crate::proofs::ChoiceLemmas::row_same_ask, x86_operands::proofs::TemplateLemmas::row_asks), unfolding(x86_operands::specs::Asks::ask_of))]
 pub fn row_ask(row: TableRow, prefixes: Prefixes, modrm: u8) -> Ask
     requires { IsForm row.form }
     ensures { (strict : Bool) → result ≡ ask_of (record_of strict row prefixes) modrm }
@@ -157,7 +157,7 @@ pub fn group_ask(row: TableRow, prefixes: Prefixes, modrm: u8) -> Ask
 }
 
 /// The record of a row at a ModRM byte.
-#[tactic(auto, unfolding(x86_operands::specs::Asks::record_at))]
+#[tactic(auto, using(x86_operands::proofs::TemplateLemmas::row_asks), unfolding(x86_operands::specs::Asks::record_at))]
 pub fn row_at(row: TableRow, prefixes: Prefixes, modrm: Option<u8>, strict: bool) -> RecordAt
     requires { IsForm row.form }
     ensures { result ≡ record_at (record_of strict row prefixes) modrm }

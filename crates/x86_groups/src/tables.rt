@@ -4,13 +4,13 @@
 //! Written by tools/tables.py from specs/Rows.antt.
 //! The proof doesn't rest on that script: a wrong entry is refused.
 use crate::cells::{Cell, cell};
-use x86_operands::plans::OperandEncoding::{
-    ConstantI8, Cr, Dr, I8, Implied, Iv, Jv, RdInReg, U8, X8,
-};
-use x86_operands::plans::{OperandEncoding, RegisterSlot};
 use x86_operands::rows::Names::{ByReg, ByRm, Name, Own};
 use x86_operands::rows::When::{Always, F2, F3, NoPrefix, NoRepeat, Only66, RexR, RexW, With66};
 use x86_operands::rows::{Reg, Rm, TemplateRow};
+use x86_operands::vocabulary::OperandEncoding::{
+    ConstantI8, Cr, Dr, I8, Implied, Iv, Jv, RdInReg, U8, X8,
+};
+use x86_operands::vocabulary::{OperandEncoding, RegisterSlot};
 use x86_operands::{read, refused, suffixed};
 use x86_regs::RegisterClass;
 

@@ -5,7 +5,7 @@ pub mod Address
 pub mod Rex
 pub mod Operands
 pub mod Respell
-pub mod PlanAlike
+pub mod InstanceAlike
 pub mod Relative
 pub mod RegisterForm
 pub mod Bytes

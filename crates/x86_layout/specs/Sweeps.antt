@@ -1,8 +1,6 @@
 -- The cuts of a sweep over any bytes, and where the instructions in them branch to.
 pub mod Cuts
-pub mod Lengths
 pub mod Sweep
-pub mod Branches
 pub mod Flows
 pub mod Marks
 pub mod Pieces

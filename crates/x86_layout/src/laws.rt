@@ -3,17 +3,15 @@
 ghost use Rattle.std.specs.Prelude.{◌≡◌, ◌↔◌, ℕ, ◌+◌, ◌^◌, ◌<◌, ◌≤◌, Bool, false, IsTrue, List, [], ◌∷◌, ◌++◌, length, take, drop, Ok, Option, Some, true};
 ghost use Rattle.std.specs.Iterator.{YieldsFirst, item_count};
 ghost use Rattle.std.specs.List.{sum_by, All};
-ghost use Rattle.x86_decode.specs.Addresses.{names_modrm, plan_within, raw_within};
+ghost use Rattle.x86_decode.specs.Addresses.{names_modrm, instance_within, raw_within};
 ghost use Rattle.x86_decode.specs.Answer.{answer_of};
 ghost use Rattle.x86_layout.specs.Sweeps.Pieces.{CutsGoOn, CutsOfMore, CutsJoin};
 ghost use Rattle.x86_layout.specs.declared.sweeps.control.Flow.{Flow};
 ghost use Rattle.x86_layout.specs.declared.sweeps.cuts.Cut.{Cut};
 ghost use Rattle.x86_layout.specs.declared.sweeps.sweep.Sweep.{Sweep};
-ghost use Rattle.x86_layout.specs.Sweeps.Cuts.{cut_length, cut_at, cuts_from, cuts_of};
-ghost use Rattle.x86_layout.specs.Sweeps.Branches.{branch_target};
-ghost use Rattle.x86_layout.specs.Sweeps.Flows.{flow_of, target_in};
+ghost use Rattle.x86_layout.specs.Sweeps.Cuts.{cut_length, cut_at, cuts_from, cuts_of, IsWithin};
+ghost use Rattle.x86_layout.specs.Sweeps.Flows.{branch_target, flow_of, target_in};
 ghost use Rattle.x86_layout.specs.Sweeps.Sweep.{cuts_left};
-ghost use Rattle.x86_layout.specs.Sweeps.Lengths.{IsWithin};
 ghost use Rattle.x86_operands.specs.declared.reader.Reading.{Reading};
 ghost use Rattle.x86_layout.specs.Parts.Split.{Encoding, HasParts, joined};
 ghost use Rattle.x86_decode.specs.declared.instructions.Instruction.{Instruction};
@@ -159,7 +157,7 @@ pub fn memory_operands_have_their_address()
     ensures { (strict : Bool) (s : List ℕ) (a : Instruction)
         (is : IsSentence (rows_of packed) strict s a) (raw : Raw) (k : ℕ) →
         raw_within (rows_of packed) strict s is.reading is.whole ≡ Some raw →
-        names_modrm (plan_within (rows_of packed) strict s is.reading is.whole) k ≡ true →
+        names_modrm (instance_within (rows_of packed) strict s is.reading is.whole) k ≡ true →
         All (λ byte. byte < 256) s → (regs : List ℕ) (next : ℕ) →
         address_at a k regs next ≡ Some (value_at (raw_form raw) regs next) }
 {

@@ -1,6 +1,5 @@
 //! The cuts of a sweep over any bytes, and where the instructions in them branch to.
 
-pub mod branches;
 pub mod control;
 pub mod cuts;
 pub mod flows;

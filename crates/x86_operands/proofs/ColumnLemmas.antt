@@ -5,18 +5,20 @@ use Rattle.std.specs.List.{list_all}
 use Rattle.std.proofs.lemmas.Bool.{and_parts, or_cases, and_left, ltb-true}
 use Rattle.std.proofs.lemmas.Bool.Decides.{nat_tests}
 use Rattle.x86_operands.specs.Vocabulary.{Prefixes, Size, OperandEncoding, Position, Nowhere, TableRow, Template, Width, BadOpcode, reg_field, is_memory}
-use Rattle.x86_operands.specs.Vocabulary.{RegisterClass, Incomplete, Verdict, Refuses, width_of, has_r, has_w, repnz, rep}
+use Rattle.x86_operands.specs.Vocabulary.{Order, RegisterClass, Incomplete, Verdict, Refuses, width_of, has_r, has_w, repnz, rep}
 use Rattle.x86_operands.specs.RowVocabulary.{Names, Place, Reg, When, Rm, ByRm, TemplateRow}
 use Rattle.x86_operands.specs.Words.{AtModRM, otherwise}
 use Rattle.x86_forms.specs.Words.{carried}
-use Rattle.x86_operands.specs.Plans.{Plan, is_refusal}
+use Rattle.x86_operands.specs.Records.{Instance, is_refusal}
 use Rattle.x86_operands.specs.Pieces.{is_modrm_encoding, writes_modrm}
 use Rattle.x86_operands.specs.declared.sizing.Size.TheVariants as size
-use Rattle.x86_operands.specs.declared.plans.OperandEncoding.TheVariants as encoding
+use Rattle.x86_operands.specs.declared.vocabulary.OperandEncoding.TheVariants as encoding
 use Rattle.x86_operands.specs.Asks.{immediate_width, immediates_width, part_width}
-use Rattle.x86_operands.specs.Encodings.{resolved, size_bytes}
-use Rattle.x86_operands.specs.Templates.{fixed_encoding, is_order, is_register_place, is_sound, reg_encoding, rm_encoding, size_at, somewhere}
-use Rattle.x86_operands.specs.Columns.{choose, opcode_of, plan_of_row, is_there, is_placed, is_reg, is_rm, is_prefixed, is_named}
+use Rattle.x86_operands.proofs.TemplateLemmas.{in_order}
+use Rattle.x86_operands.specs.Encodings.{bytes_under, operation_size, resolved, size_bytes}
+use Rattle.x86_operands.specs.Orders.{is_order, positions, sequence_of}
+use Rattle.x86_operands.specs.Templates.{fixed_encoding, is_register_place, reg_encoding, rm_encoding, size_at, somewhere}
+use Rattle.x86_operands.specs.Columns.{choose, opcode_of, instance_of_row, is_there, is_placed, is_reg, is_rm, is_prefixed, is_named}
 use Rattle.x86_operands.specs.declared.rows.Rm.TheVariants as rms
 use Rattle.x86_operands.specs.declared.rows.When.TheVariants as when
 
@@ -114,7 +116,7 @@ abbrev pub has_gap : Verdict → Bool
 has_gap (Refuses Incomplete) = true
 has_gap verdict = false
 
--- how many bytes of immediate an operand of a row has at most in a plan
+-- how many bytes of immediate an operand of a row has at most in an instance
 abbrev pub most : OperandEncoding → ℕ
 most encoding.Iv = 4
 most encoding.Ivq = 8
@@ -128,7 +130,7 @@ few t = nat_lt (most t.last + most t.extra) 9
 
 -- no gap, unless gaps are passed, and few immediates
 abbrev pub row_fits : Bool → TemplateRow → Bool
-row_fits gaps row = (gaps || not (has_gap row.verdict)) && (is_sound row.template && few row.template)
+row_fits gaps row = (gaps || not (has_gap row.verdict)) && few row.template
 
 settled_most : (s : OperandEncoding) (n : ℕ) (p : Prefixes) → immediate_width (resolved s n p) ≤ most s
 settled_most s n p = grind arith
@@ -143,27 +145,25 @@ narrow_by k a b c d e last extra h = grind (arith, nat_tests)
 small_width : (c : RegisterClass) → nat_lt (width_of c) 65 ≡ true
 small_width c = search rules
 
-size_small : (s : Size) (o : ℕ) (p : Prefixes) → nat_lt (size_bytes s o p) 65 ≡ true
-size_small size.FarPointer o p = grind arith
-size_small s o p = grind (arith, small_width)
+size_small : (s : Size) (p : Prefixes) → nat_lt (bytes_under s p) 65 ≡ true
+size_small size.FarPointer p = grind arith
+size_small s p = grind (arith, small_width)
 
 pub at_most_64 : (s : Size) (o : ℕ) (p : Prefixes) → size_bytes s o p ≤ 64
-at_most_64 s o p = let below = ltb-true (size_bytes s o p) 65 (size_small s o p) in omega (arith, below)
+at_most_64 s o p = let below = ltb-true (size_bytes s o p) 65 (size_small (operation_size s o) p) in omega (arith, below)
 
 module _ (gaps : Bool) (own : TableRow) (strict : Bool) (p : Prefixes) (m : ℕ) where
   pub chosen_fits : (rows : List TemplateRow) → list_all (row_fits gaps) rows ≡ true → row_fits gaps (choose rows own strict p m) ≡ true
   chosen_fits = chosen_has (λ row. row_fits gaps row ≡ true) (row_fits gaps) own strict p m (grind arith) (λ row e held. e)
 
-  pub at_most_8 : (row : TemplateRow) → row_fits gaps row ≡ true → immediates_width (plan_of_row row own p m) ≤ 8
+  pub at_most_8 : (row : TemplateRow) → row_fits gaps row ≡ true → immediates_width (instance_of_row row own p m) ≤ 8
   at_most_8 row h =
       let t = row.template in
       let n = carried own.form in
-      let parts = and_parts (is_sound t) (few t) (and_parts (gaps || not (has_gap row.verdict)) _ h).1 in
-      narrow_by (immediates_width (plan_of_row row own p m)) (part_width t.order.last (resolved t.last n p)) (part_width t.order.extra (resolved t.extra n p))
-      (most t.last) (most t.extra) refl (part_most t.order.last t.last n p) (part_most t.order.extra t.extra n p) parts.1
-
-  pub in_order : (row : TemplateRow) → row_fits gaps row ≡ true → is_order row.template.order ≡ true
-  in_order row h = (and_parts (is_order row.template.order) _ (and_parts (is_sound row.template) _ (and_parts (gaps || not (has_gap row.verdict)) _ h).1).0).0
+      let at : Order = positions (sequence_of t.order) in
+      narrow_by (immediates_width (instance_of_row row own p m)) (part_width at.last (resolved t.last n p))
+      (part_width at.extra (resolved t.extra n p)) (most t.last) (most t.extra) refl (part_most at.last t.last n p)
+      (part_most at.extra t.extra n p) (and_parts (gaps || not (has_gap row.verdict)) _ h).1
 
 pub without_gap : (row : TemplateRow) → row_fits false row ≡ true → row.verdict ≢ Refuses Incomplete
 without_gap row h e = absurd (true≢false (sym (and_parts (not (has_gap row.verdict)) _ h).0 ∙ ap (λ v. not (has_gap v)) e))
@@ -181,8 +181,8 @@ rm_free_encoding s = true
 
 -- no name of it goes by rm; and it refuses, or has a memory operand, and no other operand that goes by rm, X or B
 abbrev pub in_memory : TemplateRow → Bool
-in_memory row = no_rm_names row.names && (is_refusal row.verdict || ((somewhere row.template.order.rm
-    && is_modrm_encoding (rm_encoding row.template.rm)) && (rm_free_encoding row.template.last && rm_free_encoding row.template.extra)))
+in_memory row = no_rm_names row.names && (is_order row.template.order && (is_refusal row.verdict || ((somewhere row.template.order.rm
+    && is_modrm_encoding (rm_encoding row.template.rm)) && (rm_free_encoding row.template.last && rm_free_encoding row.template.extra))))
 
 abbrev pub row_in_memory : TemplateRow → Bool
 row_in_memory row = is_register_place row.at.place || in_memory row
@@ -194,31 +194,31 @@ keeps_reg row = rm_free row && row_in_memory row
 settled_alike : (s : OperandEncoding) (n : ℕ) (p q : Prefixes) → SamePrefixes p q → resolved s n p ≡ resolved s n q
 settled_alike s n p q h = grind arith
 
-size_alike : (s : Size) (o : ℕ) (p q : Prefixes) → SamePrefixes p q → size_bytes s o p ≡ size_bytes s o q
-size_alike s o p q h = grind arith
+size_alike : (s : Size) (p q : Prefixes) → SamePrefixes p q → bytes_under s p ≡ bytes_under s q
+size_alike s p q h = grind arith
 
 module _ (own : TableRow) (p q : Prefixes) (m n : ℕ) (h : SamePrefixes p q) where
   opcode_alike : (names : Names) → reg_field m ≡ reg_field n → no_rm_names names ≡ true → opcode_of names own m ≡ opcode_of names own n
   opcode_alike names same e = grind arith
 
-  pub plan_alike : (row : TemplateRow) → reg_field m ≡ reg_field n → is_memory m ≡ is_memory n → in_memory row ≡ true →
-      plan_of_row row own p m ≡ plan_of_row row own q n
-  plan_alike row same mem e =
+  pub instance_alike : (row : TemplateRow) → reg_field m ≡ reg_field n → is_memory m ≡ is_memory n → in_memory row ≡ true →
+      instance_of_row row own p m ≡ instance_of_row row own q n
+  instance_alike row same mem e =
       let x = and_parts (no_rm_names row.names) _ e in
       rw (
         opcode_alike row.names same x.0,
         settled_alike row.template.last (carried own.form) p q h,
         settled_alike row.template.extra (carried own.form) p q h,
         mem,
-        size_alike (size_at row.template n) own.opcode p q h,
+        size_alike (operation_size (size_at row.template n) own.opcode) p q h,
       ) refl
 
--- so does its plan
-abbrev pub has_memory_alone : Plan → Bool
-has_memory_alone plan = writes_modrm plan && (rm_free_encoding plan.last && (rm_free_encoding plan.extra && rm_free_encoding plan.reg))
+-- so does its instance
+abbrev pub has_memory_alone : Instance → Bool
+has_memory_alone instance = writes_modrm instance && (rm_free_encoding instance.last && (rm_free_encoding instance.extra && rm_free_encoding instance.reg))
 
-abbrev pub plan_in_memory : Plan → Bool
-plan_in_memory plan = is_refusal plan.verdict || has_memory_alone plan
+abbrev pub instance_in_memory : Instance → Bool
+instance_in_memory instance = is_refusal instance.verdict || has_memory_alone instance
 
 resolved_free : (s : OperandEncoding) (n : ℕ) (p : Prefixes) → rm_free_encoding (resolved s n p) ≡ rm_free_encoding s
 resolved_free s n p = grind arith
@@ -231,13 +231,15 @@ with_reg : (refuses there memory last extra reg : Bool) → (there ≡ true → 
     (refuses || ((there && memory) && (last && (extra && reg)))) ≡ true
 with_reg refuses there memory last extra reg free h = grind (arith, free)
 
-pub chosen_in_memory : (row : TemplateRow) (own : TableRow) (p : Prefixes) (m : ℕ) → in_memory row ≡ true → plan_in_memory (plan_of_row row own p m) ≡ true
+pub chosen_in_memory : (row : TemplateRow) (own : TableRow) (p : Prefixes) (m : ℕ) → in_memory row ≡ true →
+    instance_in_memory (instance_of_row row own p m) ≡ true
 chosen_in_memory row own p m h =
     let t = row.template in
     let n = carried own.form in
-    rw (resolved_free t.last n p, resolved_free t.extra n p)
+    let parts = and_parts (is_order t.order) _ (and_parts (no_rm_names row.names) _ h).1 in
+    rw (in_order t.order parts.0, resolved_free t.last n p, resolved_free t.extra n p)
     (with_reg (is_refusal row.verdict) (somewhere t.order.rm) (is_modrm_encoding (rm_encoding t.rm)) (rm_free_encoding t.last) (rm_free_encoding t.extra)
-    _ (reg_free (somewhere t.order.rm) t.of_opcode t.reg n) (and_parts (no_rm_names row.names) _ h).1)
+    _ (reg_free (somewhere t.order.rm) t.of_opcode t.reg n) parts.1)
 
 -- in the memory form the first row refuses, or has a memory operand
 pub first_in_memory : (rows : List TemplateRow) (own : TableRow) (strict : Bool) (p : Prefixes) (m : ℕ) → list_all keeps_reg rows ≡ true →
@@ -251,8 +253,8 @@ first_in_memory rows own strict p m h mem =
 
 pub rows_alike : (rows : List TemplateRow) (own : TableRow) (strict : Bool) (p q : Prefixes) (m n : ℕ) → list_all keeps_reg rows ≡ true →
     SamePrefixes p q → is_memory m ≡ true → is_memory n ≡ true → reg_field m ≡ reg_field n →
-    plan_of_row (choose rows own strict p m) own p m ≡ plan_of_row (choose rows own strict q n) own q n
+    instance_of_row (choose rows own strict p m) own p m ≡ instance_of_row (choose rows own strict q n) own q n
 rows_alike rows own strict p q m n kept h mm nm same =
-    plan_alike own p q m n h (choose rows own strict p m) same (mm ∙ sym nm) (first_in_memory rows own strict p m kept mm)
-    ∙ ap (λ row. plan_of_row row own q n) (chosen_alike keeps_reg own strict strict p q m n (λ row test.
+    instance_alike own p q m n h (choose rows own strict p m) same (mm ∙ sym nm) (first_in_memory rows own strict p m kept mm)
+    ∙ ap (λ row. instance_of_row row own q n) (chosen_alike keeps_reg own strict strict p q m n (λ row test.
     there_alike p q m n h mm nm same own strict row (and_parts (rm_free row) _ test).0) rows kept)

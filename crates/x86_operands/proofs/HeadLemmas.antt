@@ -17,13 +17,13 @@ use Rattle.x86_forms.proofs.FormLemmas.{up_to_seven}
 use Rattle.x86_operands.specs.declared.heads.After.TheVariants as follow
 use Rattle.x86_operands.specs.declared.rows.Reg.TheVariants as regs
 use Rattle.x86_operands.specs.declared.tables.TheConstants.{HEADS, ROWS, SPANS}
-use Rattle.x86_operands.specs.Columns.{is_named, is_placed, is_there, opcode_of, plan_of_row}
-use Rattle.x86_operands.specs.Forms.{Follows, IsPlainRow, form_plan, is_direct, is_searched, modrm_use, place_use, rows_use}
+use Rattle.x86_operands.specs.Columns.{is_named, is_placed, is_there, opcode_of, instance_of_row}
+use Rattle.x86_operands.specs.Forms.{Follows, IsPlainRow, form_instance, is_direct, is_searched, modrm_use, place_use, rows_use}
 use Rattle.x86_operands.specs.Rows.{form_rows}
-use Rattle.x86_operands.specs.Plans.{template_plan}
+use Rattle.x86_operands.specs.Records.{template_instance}
 use Rattle.x86_operands.specs.Templates.{is_read_at, is_sound_row}
 use Rattle.x86_operands.specs.Words.{AtModRM, otherwise}
-use Rattle.x86_operands.proofs.SureLemmas.{at_names, at_reg, first_chosen, first_of, is_read, is_sure, may_be, place_same, plan_is, present}
+use Rattle.x86_operands.proofs.SureLemmas.{at_names, at_reg, first_chosen, first_of, is_read, is_sure, may_be, place_same, instance_is, present}
 
 -- ---- where the rows of a form are in the table
 
@@ -188,9 +188,9 @@ module _ (found : WordRow) (m : ℕ) (row : TemplateRow) (first : row ≡ first_
   numbered false true is h e = absurd cc
   numbered false false is h e = absurd cc
 
-  pub plain_plan : (p : Prefixes) → template_plan row.template found.number found.row.opcode p m ≡ form_plan found.row p m
-  unfolding form_plan
-  plain_plan p =
+  pub plain_instance : (p : Prefixes) → template_instance row.template found.number found.row.opcode p m ≡ form_instance found.row p m
+  unfolding form_instance
+  plain_instance p =
       let parts = and_parts (is_sure row && is_own row.names) _ head in
       let sure = and_parts (is_sure row) (is_own row.names) parts.0 in
       let rest = and_parts (any_reg row.at.reg) _ parts.1 in
@@ -199,8 +199,8 @@ module _ (found : WordRow) (m : ℕ) (row : TemplateRow) (first : row ≡ first_
       rw (sym (place_same m row.at.place) ∙ placed, any_at row.at.reg (reg_field m) rest.0, names.0) refl in
       let there = present found.row false p m row may sure.0 names.1 in
       let opcode = own_opcode row.names found.row m sure.1 in
-      plan_is row found.row found.number found.row.opcode p m sure.0 opcode (numbered (carries found.row.form) row.template.of_opcode refl rest.1) refl
-      ∙ ap (λ chosen. plan_of_row chosen found.row p m)
+      instance_is row found.row found.number found.row.opcode p m sure.0 opcode (numbered (carries found.row.form) row.template.of_opcode refl rest.1) refl
+      ∙ ap (λ chosen. instance_of_row chosen found.row p m)
       (first ∙ sym (first_chosen (form_rows found.row.form) found.row false p m (subst (λ r. is_there r found.row false p m ≡ true) first there)))
 
   pub plain_read : is_read_at row.template m ≡ true
@@ -235,5 +235,5 @@ plain_at found m z d direct placed =
     (record {
       plain = follows_group f (head_of f z).after (follows_by f (head_of f z).after (heads_follow f z)) is;
       fits = plain_read found m row first head here;
-      plan = plain_plan found m row first head here;
+      instance = plain_instance found m row first head here;
     })

@@ -4,15 +4,15 @@ use Rattle.x86_arch.specs.Reader.{State}
 use Rattle.x86_operands.specs.Vocabulary.{DecodeError, Prefixes, Raw, OperandEncoding, Position, Nowhere, Width, Template, Operands, is_memory}
 use Rattle.x86_fields.specs.Raw.{read_raw}
 use Rattle.x86_fields.specs.Steps.{Outcome, outcome, then_from, pure, ◌>>=◌}
-use Rattle.x86_operands.specs.PlanSteps.{address_step, known_operand, leading_read, other_read, put_encoded, put_in, read_plan, reading_with, rm_read}
-use Rattle.x86_operands.specs.Plans.{template_plan}
+use Rattle.x86_operands.specs.RowSteps.{address_step, known_operand, leading_read, other_read, put_encoded, put_in, read_instance, reading_with, rm_read}
+use Rattle.x86_operands.specs.Records.{template_instance}
 use Rattle.x86_operands.specs.Operands.{shape}
 use Rattle.x86_operands.specs.Encodings.{resolved}
-use Rattle.x86_operands.specs.Templates.{fits_form, fixed_encoding, index_of_position, is_last, is_read_at, is_stack, reg_encoding, reg_part, rm_encoding}
-use Rattle.x86_operands.specs.Templates.{somewhere}
+use Rattle.x86_operands.specs.Templates.{fits_form, fixed_encoding, has_free_sizes, index_of_position, is_last, is_read_at, is_stack, reg_encoding}
+use Rattle.x86_operands.specs.Templates.{reg_part, rm_encoding, somewhere}
 use Rattle.x86_operands.specs.OperandList.{sized_by, value_if_ok}
 use Rattle.x86_operands.specs.Places.{place_after_address, place_of}
-use Rattle.x86_operands.proofs.TemplateLemmas.{last_by, read_parts}
+use Rattle.x86_operands.proofs.TemplateLemmas.{in_order, last_by, read_parts, sizes_by}
 
 -- a row that has nothing but what is read at once
 no_extra : (at : Position) → somewhere at ≡ false → at ≡ Nowhere
@@ -20,11 +20,13 @@ no_extra Nowhere h = refl
 no_extra at h = cc
 
 module _ (t : Template) (n : ℕ) (p : Prefixes) (m : ℕ) where
-  pub plan_is_read : (opcode : ℕ) (s : State ℕ) → is_read_at t m ≡ true → read_plan (template_plan t n opcode p m) p m s ≡
-      (leading_read t.order (reg_part t n) (rm_encoding t.rm) p m (sized_by t opcode p m) >>= λ leading.
+  pub instance_is_read : (opcode : ℕ) (s : State ℕ) → is_read_at t m ≡ true → has_free_sizes t ≡ true → read_instance (template_instance t n opcode p m) p m s ≡
+      (leading_read t.order (reg_part t n) (rm_encoding t.rm) p m (sized_by t p m) >>= λ leading.
       other_read t.order.last (resolved t.last n p) p m leading >>= λ operand_list. pure (reading_with opcode p operand_list)) s
-  unfolding read_plan
-  plan_is_read opcode s h = rw (no_extra t.order.extra (read_parts t m h).extra) refl
+  unfolding read_instance
+  instance_is_read opcode s h free =
+      let parts = read_parts t m h in
+      rw (in_order t.order parts.sound.order, no_extra t.order.extra parts.extra, sizes_by t m opcode p free) refl
 
   -- the operands of reg and rm end where SIB and displacement do
   ends_with_memory : (r : Result (Option Raw) DecodeError) (u : State ℕ) (f : Option Raw → Operands) (g : Operands → Operands) →

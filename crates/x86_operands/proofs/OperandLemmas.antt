@@ -8,7 +8,7 @@ use Rattle.x86_fields.specs.Steps.{pure, number_step}
 use Rattle.x86_fields.proofs.StepLemmas.{Takes, takes_pure}
 use Rattle.x86_fields.proofs.EndLemmas.{EndsWell, IsEmpty, Only, ends_pure, ends_map}
 use Rattle.x86_fields.proofs.PieceLemmas.{IsNumber, ends_number, takes_number, takes_map}
-use Rattle.x86_operands.specs.PlanSteps.{Immediate, immediate_read, known_operand, number_or, operand_step, other_read, put_in}
+use Rattle.x86_operands.specs.RowSteps.{Immediate, immediate_read, known_operand, number_or, operand_step, other_read, put_in}
 use Rattle.x86_operands.specs.Asks.{immediate_width, part_width}
 use Rattle.x86_operands.specs.Pieces.{operand_from}
 use Rattle.std.specs.Prelude.{FitsSigned}

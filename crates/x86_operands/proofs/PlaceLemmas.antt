@@ -8,12 +8,12 @@ use Rattle.x86_fields.specs.Steps.{Step, Outcome, outcome, then_from, pure, ◌>
 use Rattle.x86_fields.proofs.StepLemmas.{advanced_twice}
 use Rattle.x86_operands.specs.declared.places.Places.{Places}
 use Rattle.x86_operands.specs.Asks.{modrm_of, uses_suffix}
-use Rattle.x86_operands.specs.Plans.{Plan, RowRecord}
-use Rattle.x86_operands.specs.PlanSteps.{read_modrm, read_plan, record_step, refuse_fault}
+use Rattle.x86_operands.specs.Records.{Instance, RowRecord, order_of}
+use Rattle.x86_operands.specs.RowSteps.{read_modrm, read_instance, record_step, refuse_fault}
 use Rattle.x86_operands.specs.Pieces.{SpellsRow, SpellsTail, suffix_width}
-use Rattle.x86_operands.specs.Places.{Placed, place_of, plan_places, plan_placed, record_placed}
+use Rattle.x86_operands.specs.Places.{Placed, place_of, instance_places, instance_placed, record_placed}
 use Rattle.x86_operands.specs.OperandList.{value_if_ok}
-use Rattle.x86_operands.proofs.PlanLemmas.{takes_memory, takes_tail}
+use Rattle.x86_operands.proofs.InstanceLemmas.{takes_memory, takes_tail}
 use Rattle.x86_operands.proofs.RecordLemmas.{takes_modrm}
 
 -- ---- without the places
@@ -35,7 +35,7 @@ module _ (opcode_end : ℕ) (r : RowRecord) (p : Prefixes) where
   unfolding record_placed record_step
   unplaced_record s = unplaced_from (refuse_fault r.at_opcode s).answer (refuse_fault r.at_opcode s).after _ _
       (λ _ t. unplaced_from (read_modrm r.modrm t).answer (read_modrm r.modrm t).after _ _
-      (λ m u. read_is (read_plan (r.plan m) p m u).answer (read_plan (r.plan m) p m u).after _))
+      (λ m u. read_is (read_instance (r.instance m) p m u).answer (read_instance (r.instance m) p m u).after _))
 
   -- ---- the places, by the pieces
 
@@ -47,17 +47,17 @@ module _ (opcode_end : ℕ) (r : RowRecord) (p : Prefixes) where
     pieces_places s = record {
       opcode_end = opcode_end;
       address_end = place_of (s.since_mark + length a.tail_spelled.pieces.address);
-      has_suffix = uses_suffix (r.plan m).verdict;
+      has_suffix = uses_suffix (r.instance m).verdict;
     }
 
     tail_places : (t : State ℕ) → t.left ≡ a.tail ++ rest →
-        plan_placed opcode_end (r.plan m) p m t ≡ outcome (Ok (reading, pieces_places t)) (advanced (length a.tail) t)
+        instance_placed opcode_end (r.instance m) p m t ≡ outcome (Ok (reading, pieces_places t)) (advanced (length a.tail) t)
     tail_places t h =
         let pieces = a.tail_spelled.pieces in
-        let address = (takes_memory (r.plan m).order.rm p m pieces.address pieces.memory pieces.address_spelled).takes
+        let address = (takes_memory (order_of (r.instance m)).rm p m pieces.address pieces.memory pieces.address_spelled).takes
         ((pieces.immediates ++ pieces.suffix) ++ rest) t
         (h ∙ ap (λ l. l ++ rest) pieces.spelled ∙ append_assoc pieces.address (pieces.immediates ++ pieces.suffix) rest) in
-        rw ((takes_tail (r.plan m) p m a.tail reading a.tail_spelled).takes rest t h, address) refl
+        rw ((takes_tail (r.instance m) p m a.tail reading a.tail_spelled).takes rest t h, address) refl
 
     pub row_placed : (s : State ℕ) → s.left ≡ bytes ++ rest →
         record_placed opcode_end r p s ≡ outcome (Ok (reading, pieces_places (advanced (length a.modrm) s))) (advanced (length bytes) s)
@@ -72,11 +72,12 @@ module _ (opcode_end : ℕ) (r : RowRecord) (p : Prefixes) where
         (advanced_twice (length a.modrm) (length a.tail) s ∙ ap (λ n. advanced n s) all))
 
 -- what was read, and the places that were written
-pub plan_is_placed : (result : Result (Unit {0}) DecodeError) (reading : Reading) (places : Places) (opcode_end : ℕ) (plan : Plan)
-    (p : Prefixes) (m : ℕ) (s t : State ℕ) → outcome (value_if_ok result reading) t ≡ read_plan plan p m s →
-    OnOk result (places ≡ plan_places plan p m s opcode_end) → outcome (value_if_ok result (reading, places)) t ≡ plan_placed opcode_end plan p m s
-plan_is_placed (Ok x) reading places opcode_end plan p m s t read at = rw (← read, at) refl
-plan_is_placed (Err e) reading places opcode_end plan p m s t read at = rw (← read) refl
+pub instance_is_placed : (result : Result (Unit {0}) DecodeError) (reading : Reading) (places : Places) (opcode_end : ℕ) (instance : Instance)
+    (p : Prefixes) (m : ℕ) (s t : State ℕ) → outcome (value_if_ok result reading) t ≡ read_instance instance p m s →
+    OnOk result (places ≡ instance_places instance p m s opcode_end) →
+    outcome (value_if_ok result (reading, places)) t ≡ instance_placed opcode_end instance p m s
+instance_is_placed (Ok x) reading places opcode_end instance p m s t read at = rw (← read, at) refl
+instance_is_placed (Err e) reading places opcode_end instance p m s t read at = rw (← read) refl
 
 -- a suffix is there where the verdict uses one
 pub suffix_is_there : (verdict : Verdict) (suffix : List ℕ) → length suffix ≡ suffix_width verdict → nat_lt 0 (length suffix) ≡ uses_suffix verdict

@@ -1,4 +1,4 @@
--- What holds of the plans of all plain forms.
+-- What holds of the instances of all plain forms.
 use Rattle.std.proofs.Common.{◌≡◌, ◌≢◌, ◌≤◌, inl, inr, ℕ, Err, true, false, refl, subst}
 use Rattle.std.specs.List.{list_all}
 use Rattle.x86_arch.specs.Reader.{State}
@@ -6,15 +6,15 @@ use Rattle.x86_fields.specs.declared.errors.DecodeError.TheVariants.{IncompleteD
 use Rattle.x86_operands.specs.Vocabulary.{Prefixes, Form, Incomplete, Refuses, TableRow, EitherForm}
 use Rattle.x86_forms.specs.declared.Form.TheVariants as form
 use Rattle.x86_forms.specs.Groups.{is_group}
-use Rattle.x86_operands.specs.PlanSteps.{record_step}
+use Rattle.x86_operands.specs.RowSteps.{record_step}
 use Rattle.x86_operands.specs.RowVocabulary.{TemplateRow}
 use Rattle.x86_operands.specs.Columns.{choose}
 use Rattle.x86_operands.specs.Asks.{immediates_width}
-use Rattle.x86_operands.specs.Templates.{is_order, size_at}
-use Rattle.x86_operands.specs.Forms.{form_plan, form_record, modrm_use}
+use Rattle.x86_operands.specs.Templates.{size_at}
+use Rattle.x86_operands.specs.Forms.{form_instance, form_record, modrm_use}
 use Rattle.x86_operands.specs.Rows.{form_rows}
 use Rattle.x86_operands.proofs.RecordLemmas.{HasGap, row_left_out}
-use Rattle.x86_operands.proofs.ColumnLemmas.{without_gap, at_most_64, at_most_8, chosen_fits, in_order, keeps_reg, row_fits}
+use Rattle.x86_operands.proofs.ColumnLemmas.{without_gap, at_most_64, at_most_8, chosen_fits, keeps_reg, row_fits}
 
 rows_fit : (f : Form) → list_all (row_fits (is_group f)) (form_rows f) ≡ true
 unfolding form_rows
@@ -34,21 +34,17 @@ module _ (row : TableRow) (p : Prefixes) (m : ℕ) where
   fits : row_fits (is_group row.form) first ≡ true
   fits = chosen_fits (is_group row.form) row false p m (form_rows row.form) (rows_fit row.form)
 
-  pub plain_built : is_group row.form ≡ false → ((form_record row p).plan m).verdict ≢ Refuses Incomplete
-  unfolding form_record form_plan
+  pub plain_built : is_group row.form ≡ false → ((form_record row p).instance m).verdict ≢ Refuses Incomplete
+  unfolding form_record form_instance
   plain_built plain = without_gap first (subst (λ g. row_fits g first ≡ true) plain fits)
 
-  pub plain_small : ((form_record row p).plan m).size ≤ 64
-  unfolding form_record form_plan
+  pub plain_small : ((form_record row p).instance m).size ≤ 64
+  unfolding form_record form_instance
   plain_small = at_most_64 (size_at first.template m) row.opcode p
 
-  pub plain_narrow : immediates_width ((form_record row p).plan m) ≤ 8
-  unfolding form_record form_plan
+  pub plain_narrow : immediates_width ((form_record row p).instance m) ≤ 8
+  unfolding form_record form_instance
   plain_narrow = at_most_8 (is_group row.form) row false p m first fits
-
-  pub plain_in_order : is_order ((form_record row p).plan m).order ≡ true
-  unfolding form_record form_plan
-  plain_in_order = in_order (is_group row.form) row false p m first fits
 
 -- a row of a plain form is never left out
 pub plain_read : (row : TableRow) (p : Prefixes) (s : State ℕ) → is_group row.form ≡ false →

@@ -9,12 +9,12 @@ use Rattle.x86_fields.proofs.StepLemmas.{Takes, takes_pure, takes_bind, takes_er
 use Rattle.x86_fields.proofs.EndLemmas.{EndsWell, IsEmpty, Only, IsByte, ends_byte, ends_pure, ends_refuse, ends_bind, ends_then, ends_map, weaken, Halts}
 use Rattle.x86_fields.proofs.EndLemmas.{halts_bind, halts_empty, halts_refused, Ends, settles, runs_out, longest}
 use Rattle.x86_fields.proofs.PieceLemmas.{takes_map}
-use Rattle.x86_operands.specs.Plans.{RowRecord}
-use Rattle.x86_operands.specs.PlanSteps.{read_modrm, refuse_fault, read_plan, record_step, error_of}
+use Rattle.x86_operands.specs.Records.{RowRecord}
+use Rattle.x86_operands.specs.RowSteps.{read_modrm, refuse_fault, read_instance, record_step, error_of}
 use Rattle.x86_operands.specs.Pieces.{SpellsTail, RefusesTail, tail_widths, modrm_width, SpellsRow, RefusesRow, at_opcode, past_opcode, BetweenRow, before}
 use Rattle.x86_operands.specs.Pieces.{with_modrm, after_pieces, no_name, IsReadRow, IsRefusedRow, IsOpenRow}
 use Rattle.x86_operands.specs.Asks.{modrm_of}
-use Rattle.x86_operands.proofs.PlanLemmas.{Faults, Never, fault_error, PlanYields, ends_plan, takes_tail, takes_tail_refused, halts_plan}
+use Rattle.x86_operands.proofs.InstanceLemmas.{Faults, Never, fault_error, InstanceYields, ends_instance, takes_tail, takes_tail_refused, halts_instance}
 use Rattle.std.proofs.lemmas.List.{append-nil}
 use Rattle.x86_arch.specs.Reader.{State, advanced}
 use Rattle.x86_fields.specs.declared.errors.DecodeError.TheVariants.{ExhaustedInput, InvalidPrefixes, TooLong, IncompleteDecoder}
@@ -60,7 +60,7 @@ module _ (r : RowRecord) (p : Prefixes) where
   u = r.modrm
 
   abbrev after_modrm : ℕ → Step Reading
-  after_modrm m = read_plan (r.plan m) p m
+  after_modrm m = read_instance (r.instance m) p m
 
   abbrev after_fault : Step Reading
   after_fault = read_modrm u >>= after_modrm
@@ -72,22 +72,22 @@ module _ (r : RowRecord) (p : Prefixes) where
   Between q = BetweenRow r p q
 
   row_yields : (modrm q : List ℕ) (m : ℕ) (a : Result Reading DecodeError) → r.at_opcode ≡ None → IsModrm u modrm m →
-      PlanYields (r.plan m) p m q a → Yields (modrm ++ q) a
+      InstanceYields (r.instance m) p m q a → Yields (modrm ++ q) a
   row_yields modrm q m (Ok reading) passed h g = record {
     modrm = modrm;
     tail = q;
     passed = passed;
     spelled = refl;
     modrm_length = h.0;
-    tail_spelled = subst (λ k. SpellsTail (r.plan k) p k q reading) h.1 g;
+    tail_spelled = subst (λ k. SpellsTail (r.instance k) p k q reading) h.1 g;
   }
-  row_yields modrm q m (Err e) passed h g = (g.0, g.1, past_opcode modrm q passed refl h.0 (subst (λ k. RefusesTail (r.plan k) p k q g.0) h.1 g.2))
+  row_yields modrm q m (Err e) passed h g = (g.0, g.1, past_opcode modrm q passed refl h.0 (subst (λ k. RefusesTail (r.instance k) p k q g.0) h.1 g.2))
 
   ends_after_fault : r.at_opcode ≡ None → EndsWell Yields Between after_fault
   ends_after_fault passed = ends_then (IsModrm u) IsEmpty Yields Between (read_modrm u) after_modrm (ends_modrm u)
       (λ q e. before e)
       (λ modrm m h s. weaken s (λ q a g. row_yields modrm q m a passed h g)
-      (λ q k. with_modrm modrm q refl h.0 (subst (λ x. EndsBetween (tail_widths (r.plan x) x q) q) h.1 k)) (ends_plan (r.plan m) p m s))
+      (λ q k. with_modrm modrm q refl h.0 (subst (λ x. EndsBetween (tail_widths (r.instance x) x q) q) h.1 k)) (ends_instance (r.instance m) p m s))
 
   -- what a row takes has the pieces of the row, or ends between them
   pub ends_row : EndsWell Yields Between (record_step r p)
@@ -109,14 +109,14 @@ module _ (r : RowRecord) (p : Prefixes) where
   pub takes_row : (q : List ℕ) (reading : Reading) → SpellsRow r p q reading → Takes (record_step r p) q (Ok reading)
   takes_row q reading s = subst (λ l. Takes (record_step r p) l (Ok reading)) (sym s.spelled)
       (takes_row_by s.modrm s.tail (Ok reading) s.passed s.modrm_length
-      (takes_tail (r.plan (modrm_of u s.modrm)) p (modrm_of u s.modrm) s.tail reading s.tail_spelled))
+      (takes_tail (r.instance (modrm_of u s.modrm)) p (modrm_of u s.modrm) s.tail reading s.tail_spelled))
 
   pub takes_row_refused : (q : List ℕ) (fault : Fault) → RefusesRow r p q fault → Takes (record_step r p) q (Err (error_of fault))
   unfolding record_step
   takes_row_refused q fault (at_opcode is none) = subst (λ l. Takes (record_step r p) l (Err (error_of fault))) (sym none)
       (takes_err (refuse_fault r.at_opcode) (λ _. after_fault) [] (error_of fault) (rw is (takes_pure (Err (error_of fault)))))
   takes_row_refused q fault (past_opcode modrm tail passed h long s) = subst (λ l. Takes (record_step r p) l (Err (error_of fault))) (sym h)
-      (takes_row_by modrm tail (Err (error_of fault)) passed long (takes_tail_refused (r.plan (modrm_of u modrm)) p (modrm_of u modrm) tail fault s))
+      (takes_row_by modrm tail (Err (error_of fault)) passed long (takes_tail_refused (r.instance (modrm_of u modrm)) p (modrm_of u modrm) tail fault s))
 
   halts_by : (q : List ℕ) → Halts after_fault q → (o : Option Fault) → r.at_opcode ≡ o → Halts (record_step r p) q
   unfolding record_step
@@ -129,7 +129,7 @@ module _ (r : RowRecord) (p : Prefixes) where
   halts_row q (with_modrm modrm tail h long k) =
       let m : ℕ = modrm_of u modrm in
       let tail_halts : Halts after_fault (modrm ++ tail) =
-      halts_bind (read_modrm u) after_modrm modrm tail m (takes_modrm u modrm long) (halts_plan (r.plan m) p m tail k) in
+      halts_bind (read_modrm u) after_modrm modrm tail m (takes_modrm u modrm long) (halts_instance (r.instance m) p m tail k) in
       subst (Halts (record_step r p)) (sym h) (halts_by (modrm ++ tail) tail_halts r.at_opcode refl)
 
 -- ---- what was taken with each answer
@@ -142,9 +142,9 @@ one_gap : (f : Fault) → error_of f ≡ IncompleteDecoder → f ≡ Incomplete
 one_gap f e = grind arith
 
 module _ (r : RowRecord) (p : Prefixes) where
-  -- a record or one of its plans refuses as left out
+  -- a record or one of its instances refuses as left out
   abbrev pub HasGap : Type 0
-  HasGap = (r.at_opcode ≡ Some Incomplete) ⊎ ((m : ℕ) × ((r.plan m).verdict ≡ Refuses Incomplete))
+  HasGap = (r.at_opcode ≡ Some Incomplete) ⊎ ((m : ℕ) × ((r.instance m).verdict ≡ Refuses Incomplete))
 
   module _ (s : State ℕ) where
     -- what was resolved on the first bytes, if the answer is this
@@ -202,7 +202,7 @@ module _ (r : RowRecord) (p : Prefixes) where
     pub row_has_no_length : (record_step r p s).answer ≢ Err TooLong
     row_has_no_length h = let is = row_refused TooLong h (λ e. cc) in (no_fault is.fault).1 (sym is.named)
 
-    gap_of_tail : (m : ℕ) (tail : List ℕ) (f : Fault) → f ≡ Incomplete → RefusesTail (r.plan m) p m tail f → HasGap
+    gap_of_tail : (m : ℕ) (tail : List ℕ) (f : Fault) → f ≡ Incomplete → RefusesTail (r.instance m) p m tail f → HasGap
     gap_of_tail m tail f is (after_pieces e _) = inr (m, e ∙ ap (λ x. Refuses x) is)
     gap_of_tail m tail f is (no_name _ _ _ e) = let named : BadOpcode ≡ Incomplete = sym e ∙ is in absurd cc
 

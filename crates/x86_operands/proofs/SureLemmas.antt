@@ -2,18 +2,17 @@
 use Rattle.std.proofs.Common.{◌≡◌, ℕ, zero, suc, nat_le, ◌==◌, Bool, true, false, not, ◌&&◌, if◌then◌else◌, List, [], ◌∷◌}
 use Rattle.std.proofs.Common.{slice_index_or, refl, ◌∙◌, arith}
 use Rattle.std.proofs.lemmas.Bool.{and_parts}
-use Rattle.x86_operands.specs.Vocabulary.{Prefixes, TableRow, Template, Size, Width, Verdict, Accepts, PrefixChange, Keeps}
+use Rattle.x86_operands.specs.Vocabulary.{Prefixes, TableRow, Template, Width, Verdict, Accepts, PrefixChange, Keeps}
 use Rattle.x86_operands.specs.Vocabulary.{BadOpcode, reg_field, is_memory}
 use Rattle.x86_operands.specs.RowVocabulary.{TemplateRow, Rm, Names, ByReg, Place, Memory, Register, Reg, When}
 use Rattle.x86_operands.specs.declared.rows.Reg.TheVariants as regs
 use Rattle.x86_operands.specs.declared.rows.Rm.TheVariants as rms
 use Rattle.x86_operands.specs.declared.rows.When.TheVariants as when
-use Rattle.x86_operands.specs.declared.sizing.Size.TheVariants as size
 use Rattle.x86_operands.specs.Words.{AtModRM, otherwise}
-use Rattle.x86_operands.specs.Columns.{choose, is_there, is_placed, is_reg, is_rm, is_prefixed, is_named, name_at, opcode_of, plan_of_row}
+use Rattle.x86_operands.specs.Columns.{choose, is_there, is_placed, is_reg, is_rm, is_prefixed, is_named, name_at, opcode_of, instance_of_row}
 use Rattle.x86_forms.specs.Words.{carried}
 use Rattle.x86_operands.specs.Encodings.{size_bytes}
-use Rattle.x86_operands.specs.Plans.{template_plan}
+use Rattle.x86_operands.specs.Records.{template_instance}
 use Rattle.x86_operands.specs.Templates.{fixed_encoding, is_last, is_simple, is_read_at, is_sound, is_sound_row}
 use Rattle.x86_operands.specs.Templates.{reg_encoding, size_at, somewhere}
 use Rattle.x86_operands.proofs.TemplateLemmas.{fits_placed, last_by}
@@ -148,42 +147,12 @@ is_read row m sure placed =
       fits_placed row m plain.1 placed,
     ) refl
 
--- ---- its plan is that of its template
+-- ---- its instance is that of its template
 
 reg_by : (rm of_opcode : Bool) (w : Width) (n k : ℕ) → (of_opcode ≡ true → n ≡ k) →
     (if rm then reg_encoding w else fixed_encoding of_opcode w n) ≡ (if rm then reg_encoding w else fixed_encoding of_opcode w k)
 reg_by rm true w n k same = rw (same refl) refl
 reg_by rm false w n k same = refl
-
--- a size that goes by no operation
-abbrev pub is_free : Size → Bool
-is_free size.Call = false
-is_free size.Bare = false
-is_free size.Return = false
-is_free size.Duplicate = false
-is_free size.Stream = false
-is_free size.Scalar = false
-is_free size.Extract = false
-is_free size.Insert = false
-is_free size.Unpack = false
-is_free size.Extend = false
-is_free s = true
-
-abbrev pub has_free_sizes : Template → Bool
-has_free_sizes t = is_free t.in_memory && is_free t.in_register
-
-free_bytes : (s : Size) (o k : ℕ) (p : Prefixes) → is_free s ≡ true → size_bytes s o p ≡ size_bytes s k p
-free_bytes s o k p h = grind arith
-
-free_at : (memory : Bool) (a b : Size) (o k : ℕ) (p : Prefixes) → is_free a ≡ true → is_free b ≡ true →
-    size_bytes (if memory then a else b) o p ≡ size_bytes (if memory then a else b) k p
-free_at true a b o k p h e = free_bytes a o k p h
-free_at false a b o k p h e = free_bytes b o k p e
-
-pub sizes_by : (t : Template) (m o k : ℕ) (p : Prefixes) → has_free_sizes t ≡ true → size_bytes (size_at t m) o p ≡ size_bytes (size_at t m) k p
-sizes_by t m o k p h =
-    let parts = and_parts (is_free t.in_memory) (is_free t.in_register) h in
-    free_at (is_memory m) t.in_memory t.in_register o k p parts.0 parts.1
 
 accepted : (v : Verdict) → accepts v ≡ true → v ≡ Accepts
 accepted Accepts h = refl
@@ -193,11 +162,11 @@ kept : (c : PrefixChange) → keeps c ≡ true → c ≡ Keeps
 kept Keeps h = refl
 kept c h = cc
 
-pub plan_is : (row : TemplateRow) (own : TableRow) (n o : ℕ) (p : Prefixes) (m : ℕ) → is_sure row ≡ true → opcode_of row.names own m ≡ o →
+pub instance_is : (row : TemplateRow) (own : TableRow) (n o : ℕ) (p : Prefixes) (m : ℕ) → is_sure row ≡ true → opcode_of row.names own m ≡ o →
     (row.template.of_opcode ≡ true → n ≡ carried own.form) →
     size_bytes (size_at row.template m) o p ≡ size_bytes (size_at row.template m) own.opcode p →
-    template_plan row.template n o p m ≡ plan_of_row row own p m
-plan_is row own n o p m sure opcode number size =
+    template_instance row.template n o p m ≡ instance_of_row row own p m
+instance_is row own n o p m sure opcode number size =
     let parts = and_parts (accepts row.verdict && keeps row.change) _ (and_parts (is_first row) (is_at_once row) sure).1 in
     let ends = and_parts (accepts row.verdict) (keeps row.change) parts.0 in
     let plain = and_parts (is_simple row.template && is_last row.template.extra) _ parts.1 in

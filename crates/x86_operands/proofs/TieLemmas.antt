@@ -6,15 +6,15 @@ use Rattle.x86_arch.specs.Reader.{State}
 use Rattle.x86_operands.specs.declared.operands.Slot.TheVariants as slots
 use Rattle.x86_operands.specs.declared.operands.Operand.TheVariants as operands
 use Rattle.x86_operands.specs.Operands.{shape}
-use Rattle.x86_operands.specs.Plans.{Plan, RowRecord}
-use Rattle.x86_operands.specs.PlanSteps.{changed, known_operand, put_in, reading_with, record_step, sized}
-use Rattle.x86_operands.specs.Pieces.{is_decoded, suits, slot_read, operand_read, AreTied, IsOrdered, is_modrm_encoding, names_modrm}
+use Rattle.x86_operands.specs.Orders.{Sequence, NO, I, I_X, R, R_I, R_I_X, I_R, G_E_I_X, positions}
+use Rattle.x86_operands.specs.Records.{Instance, RowRecord, order_of}
+use Rattle.x86_operands.specs.RowSteps.{changed, known_operand, put_in, reading_with, record_step, sized}
+use Rattle.x86_operands.specs.Pieces.{is_decoded, suits, slot_read, operand_read, AreTied, is_modrm_encoding, names_modrm}
 use Rattle.x86_operands.specs.Pieces.{reading_from, writes_modrm}
 use Rattle.x86_operands.specs.Pieces.{HasShapeAt, operand_from, SpellsMemory, SpellsRow}
 use Rattle.x86_operands.specs.Asks.{modrm_of, part_width}
 use Rattle.x86_operands.specs.Templates.{index_of_position, somewhere}
 use Rattle.x86_operands.proofs.RecordLemmas.{row_read}
-use Rattle.x86_operands.proofs.TemplateLemmas.{Named, named, no_named, i_named, i_x_named, r_named, r_i_named, r_i_x_named, i_r_named, g_e_i_x_named}
 
 -- ---- one operand
 
@@ -44,54 +44,56 @@ modrm_yields s p m raw e = grind arith
 -- ---- the operands in their order
 
 module _ (rm reg last extra : Pair) (size opcode : ℕ) (p : Prefixes) where
-  abbrev written : Order → Reading
-  written o = reading_with opcode p (put_in o.extra extra (put_in o.last last (put_in o.reg reg (put_in o.rm rm (sized o.count size)))))
+  abbrev written : Sequence → Reading
+  written o =
+      let at : Order = positions o in
+      reading_with opcode p (put_in at.extra extra (put_in at.last last (put_in at.reg reg (put_in at.rm rm (sized at.count size)))))
 
-  abbrev pair_read : Order → ℕ → Pair
+  abbrev pair_read : Sequence → ℕ → Pair
   pair_read o k = (slot_read (written o) k, operand_read (written o) k)
 
-  nothing_in : {o : Order} → Named o → (k : ℕ) → o.count ≤ k → pair_read o k ≡ (slots.Nothing, operands.Nothing)
-  nothing_in no_named zero le = refl
-  nothing_in h zero le = absurd (omega arith)
-  nothing_in no_named (suc zero) le = refl
-  nothing_in h (suc zero) le = grind arith
-  nothing_in no_named (suc (suc zero)) le = refl
-  nothing_in h (suc (suc zero)) le = grind arith
-  nothing_in g_e_i_x_named (suc (suc (suc zero))) le = absurd (omega arith)
-  nothing_in h (suc (suc (suc zero))) le = refl
-  nothing_in no_named (suc (suc (suc (suc k)))) le = refl
-  nothing_in h (suc (suc (suc (suc k)))) le = refl
+  nothing_in : (o : Sequence) → (k : ℕ) → (positions o).count ≤ k → pair_read o k ≡ (slots.Nothing, operands.Nothing)
+  nothing_in NO zero le = refl
+  nothing_in o zero le = absurd (omega arith)
+  nothing_in NO (suc zero) le = refl
+  nothing_in o (suc zero) le = grind arith
+  nothing_in NO (suc (suc zero)) le = refl
+  nothing_in o (suc (suc zero)) le = grind arith
+  nothing_in G_E_I_X (suc (suc (suc zero))) le = absurd (omega arith)
+  nothing_in o (suc (suc (suc zero))) le = refl
+  nothing_in NO (suc (suc (suc (suc k)))) le = refl
+  nothing_in o (suc (suc (suc (suc k)))) le = refl
 
-  tied_in : {o : Order} → Named o → IsTied rm → IsTied reg → IsTied last → IsTied extra → (k : ℕ) → k < o.count → IsTied (pair_read o k)
-  tied_in no_named a b c d k below = absurd (omega arith)
-  tied_in h a b c d zero below = (grind arith, grind arith)
-  tied_in h a b c d (suc zero) below = (grind arith, grind arith)
-  tied_in h a b c d (suc (suc zero)) below = (grind arith, grind arith)
-  tied_in h a b c d (suc (suc (suc zero))) below = (grind arith, grind arith)
-  tied_in h a b c d (suc (suc (suc (suc k)))) below = absurd (omega arith)
+  tied_in : (o : Sequence) → IsTied rm → IsTied reg → IsTied last → IsTied extra → (k : ℕ) → k < (positions o).count → IsTied (pair_read o k)
+  tied_in NO a b c d k below = absurd (omega arith)
+  tied_in o a b c d zero below = (grind arith, grind arith)
+  tied_in o a b c d (suc zero) below = (grind arith, grind arith)
+  tied_in o a b c d (suc (suc zero)) below = (grind arith, grind arith)
+  tied_in o a b c d (suc (suc (suc zero))) below = (grind arith, grind arith)
+  tied_in o a b c d (suc (suc (suc (suc k)))) below = absurd (omega arith)
 
-  few_in : {o : Order} → Named o → o.count ≤ 4
-  few_in no_named = omega arith
-  few_in h = omega arith
+  few_in : (o : Sequence) → (positions o).count ≤ 4
+  few_in NO = omega arith
+  few_in o = omega arith
 
-  all_tied : {o : Order} → Named o → IsTied rm → IsTied reg → IsTied last → IsTied extra → AreTied (written o)
-  all_tied h a b c d = record {
-    few = few_in h;
-    decoded = λ k below. (tied_in h a b c d k below).0;
-    suited = λ k below. (tied_in h a b c d k below).1;
-    empty_slots = λ k le. ap (λ x. x.0) (nothing_in h k le);
-    empty_operands = λ k le. ap (λ x. x.1) (nothing_in h k le);
+  all_tied : (o : Sequence) → IsTied rm → IsTied reg → IsTied last → IsTied extra → AreTied (written o)
+  all_tied o a b c d = record {
+    few = few_in o;
+    decoded = λ k below. (tied_in o a b c d k below).0;
+    suited = λ k below. (tied_in o a b c d k below).1;
+    empty_slots = λ k le. ap (λ x. x.0) (nothing_in o k le);
+    empty_operands = λ k le. ap (λ x. x.1) (nothing_in o k le);
   }
 
-  rm_in : {o : Order} → Named o → somewhere o.rm ≡ true → (raw : Raw) → rm ≡ shape raw → HasShapeAt (written o) (index_of_position o.rm) raw
-  rm_in no_named is raw e = absurd cc
-  rm_in i_named is raw e = absurd cc
-  rm_in i_x_named is raw e = absurd cc
-  rm_in r_named is raw e = absurd cc
-  rm_in r_i_named is raw e = absurd cc
-  rm_in r_i_x_named is raw e = absurd cc
-  rm_in i_r_named is raw e = absurd cc
-  rm_in h is raw e = record { below = omega arith; slot = ap (λ x. x.0) e; operand = ap (λ x. x.1) e }
+  rm_in : (o : Sequence) → somewhere (positions o).rm ≡ true → (raw : Raw) → rm ≡ shape raw → HasShapeAt (written o) (index_of_position (positions o).rm) raw
+  rm_in NO is raw e = absurd cc
+  rm_in I is raw e = absurd cc
+  rm_in I_X is raw e = absurd cc
+  rm_in R is raw e = absurd cc
+  rm_in R_I is raw e = absurd cc
+  rm_in R_I_X is raw e = absurd cc
+  rm_in I_R is raw e = absurd cc
+  rm_in o is raw e = record { below = omega arith; slot = ap (λ x. x.0) e; operand = ap (λ x. x.1) e }
 
 -- 67 of the raw fields is that of the prefixes
 same_address_size : (at : Position) (p : Prefixes) (m : ℕ) (bytes : List ℕ) (memory : Option Raw) (raw : Raw) → SpellsMemory at p m bytes memory →
@@ -106,45 +108,45 @@ module _ (r : RowRecord) (p : Prefixes) (bytes : List ℕ) (reading : Reading) (
   abbrev m : ℕ
   m = modrm_of r.modrm row_spelled.modrm
 
-  abbrev plan : Plan
-  plan = r.plan m
+  abbrev instance : Instance
+  instance = r.instance m
 
   abbrev memory : Option Raw
   memory = row_spelled.tail_spelled.pieces.memory
 
   abbrev last : Pair
-  last = operand_from plan.last p m (take (part_width plan.order.last plan.last) row_spelled.tail_spelled.pieces.immediates)
+  last = operand_from instance.last p m (take (part_width (order_of instance).last instance.last) row_spelled.tail_spelled.pieces.immediates)
 
   abbrev extra : Pair
-  extra = operand_from plan.extra p m (drop (part_width plan.order.last plan.last) row_spelled.tail_spelled.pieces.immediates)
+  extra = operand_from instance.extra p m (drop (part_width (order_of instance).last instance.last) row_spelled.tail_spelled.pieces.immediates)
 
   abbrev reg : Pair
-  reg = known_operand plan.reg p m None
+  reg = known_operand instance.reg p m None
 
-  pub spelled_tied : IsOrdered r → AreTied reading
-  spelled_tied ordered = subst AreTied (sym row_spelled.tail_spelled.yields)
-      (all_tied (known_operand plan.rm p m memory) reg last extra plan.size row_spelled.tail_spelled.opcode (changed plan.change p)
-      (named plan.order (ordered m)) (known_tied plan.rm p m memory) (known_tied plan.reg p m None)
-      (operand_tied plan.last p m (take (part_width plan.order.last plan.last) row_spelled.tail_spelled.pieces.immediates))
-      (operand_tied plan.extra p m (drop (part_width plan.order.last plan.last) row_spelled.tail_spelled.pieces.immediates)))
+  pub spelled_tied : AreTied reading
+  spelled_tied = subst AreTied (sym row_spelled.tail_spelled.yields)
+      (all_tied (known_operand instance.rm p m memory) reg last extra instance.size row_spelled.tail_spelled.opcode (changed instance.change p)
+      instance.order (known_tied instance.rm p m memory) (known_tied instance.reg p m None)
+      (operand_tied instance.last p m (take (part_width (order_of instance).last instance.last) row_spelled.tail_spelled.pieces.immediates))
+      (operand_tied instance.extra p m (drop (part_width (order_of instance).last instance.last) row_spelled.tail_spelled.pieces.immediates)))
 
   module _ (raw : Raw) (read : memory ≡ Some raw) where
     -- 67 of the raw fields is that of the prefixes
     pub memory_size_is : raw.address_size ≡ p.address_size
-    memory_size_is = same_address_size plan.order.rm p m row_spelled.tail_spelled.pieces.address memory raw
+    memory_size_is = same_address_size (order_of instance).rm p m row_spelled.tail_spelled.pieces.address memory raw
         row_spelled.tail_spelled.pieces.address_spelled read
 
     -- the slot and the operand at the index of rm
-    pub memory_is_shape : IsOrdered r → (k : ℕ) → names_modrm plan k ≡ true → HasShapeAt reading k raw
-    memory_is_shape ordered k is =
-        let parts = and_parts (writes_modrm plan) _ is in
-        let there = and_parts (somewhere plan.order.rm) (is_modrm_encoding plan.rm) parts.0 in
+    pub memory_is_shape : (k : ℕ) → names_modrm instance k ≡ true → HasShapeAt reading k raw
+    memory_is_shape k is =
+        let parts = and_parts (writes_modrm instance) _ is in
+        let there = and_parts (somewhere (order_of instance).rm) (is_modrm_encoding instance.rm) parts.0 in
         subst (λ x. HasShapeAt x k raw) (sym row_spelled.tail_spelled.yields)
-        (subst (λ k. HasShapeAt (reading_from plan p m row_spelled.tail_spelled.opcode memory row_spelled.tail_spelled.pieces.immediates) k raw)
-        (eqb-true (index_of_position plan.order.rm) k parts.1)
-        (rm_in (known_operand plan.rm p m memory) reg last extra plan.size row_spelled.tail_spelled.opcode (changed plan.change p)
-        (named plan.order (ordered m)) there.0 raw (ap (λ o. known_operand plan.rm p m o) read ∙ modrm_yields plan.rm p m raw there.1)))
+        (subst (λ k. HasShapeAt (reading_from instance p m row_spelled.tail_spelled.opcode memory row_spelled.tail_spelled.pieces.immediates) k raw)
+        (eqb-true (index_of_position (order_of instance).rm) k parts.1)
+        (rm_in (known_operand instance.rm p m memory) reg last extra instance.size row_spelled.tail_spelled.opcode (changed instance.change p)
+        instance.order there.0 raw (ap (λ o. known_operand instance.rm p m o) read ∙ modrm_yields instance.rm p m raw there.1)))
 
 -- what is read is tied
-pub read_tied : (r : RowRecord) (p : Prefixes) (s : State ℕ) (reading : Reading) → IsOrdered r → (record_step r p s).answer ≡ Ok reading → AreTied reading
-read_tied r p s reading ordered h = let is = row_read r p s reading h in spelled_tied r p is.bytes reading is.spelled ordered
+pub read_tied : (r : RowRecord) (p : Prefixes) (s : State ℕ) (reading : Reading) → (record_step r p s).answer ≡ Ok reading → AreTied reading
+read_tied r p s reading h = let is = row_read r p s reading h in spelled_tied r p is.bytes reading is.spelled

@@ -1,6 +1,6 @@
 -- What the columns of a row mean. A row says where it is (the form of ModRM, reg, rm, the prefixes) and what it has
 -- there: a name and operands, or a refusal. The first row that holds counts. `own` is the row in the opcode map. What the
--- letters of operands mean is in PlanSteps. Source: Intel SDM volume 2, appendix A.4 (the columns of its tables of opcode
+-- letters of operands mean is in RowSteps. Source: Intel SDM volume 2, appendix A.4 (the columns of its tables of opcode
 -- extensions).
 use Rattle.std.specs.Prelude.{ℕ, nat_le, ◌==◌, Bool, true, not, ◌&&◌, ◌||◌, if◌then◌else◌, List, [], ◌∷◌, slice_index_or, unwrap_or}
 use Rattle.x86_operands.specs.Vocabulary.{Prefixes, TableRow, BadOpcode, reg_field, rm_field, is_memory, operand_size}
@@ -11,7 +11,7 @@ use Rattle.x86_opcodes.specs.Names.{Invalid}
 use Rattle.x86_opcodes.specs.Numbers.{opcode_numbered}
 use Rattle.x86_forms.specs.Words.{carried}
 use Rattle.x86_operands.specs.Encodings.{size_bytes}
-use Rattle.x86_operands.specs.Plans.{Plan, reads}
+use Rattle.x86_operands.specs.Records.{Instance, reads}
 use Rattle.x86_operands.specs.Templates.{size_at}
 use Rattle.x86_operands.specs.declared.rows.Reg.TheVariants as regs
 use Rattle.x86_operands.specs.declared.rows.Rm.TheVariants as rms
@@ -87,11 +87,11 @@ opcode_of (Name n) own m = named n
 opcode_of (ByReg names) own m = named (name_at names (reg_field m))
 opcode_of (ByRm names) own m = named (name_at names (rm_field m))
 
--- ---- the plan of a row
+-- ---- the instance of a row
 
 -- what a row has at a ModRM byte
-abbrev pub plan_of_row : TemplateRow → TableRow → Prefixes → ℕ → Plan
-plan_of_row row own p m =
+abbrev pub instance_of_row : TemplateRow → TableRow → Prefixes → ℕ → Instance
+instance_of_row row own p m =
     record (reads (opcode_of row.names own m) row.template (carried own.form) p (size_bytes (size_at row.template m) own.opcode p)) {
       change = row.change;
       verdict = row.verdict;

@@ -2,8 +2,8 @@
 use Rattle.std.specs.Prelude.{ℕ, Bool, true, false, List, [], ◌∷◌, None, ◌≡◌, ⊤}
 use Rattle.x86_operands.specs.Vocabulary.{Form, Prefixes, TableRow, ModrmUse, Absent, EitherForm, After, Template}
 use Rattle.x86_operands.specs.RowVocabulary.{Place, Bare, TemplateRow}
-use Rattle.x86_operands.specs.Plans.{Plan, RowRecord, template_plan}
-use Rattle.x86_operands.specs.Columns.{choose, plan_of_row}
+use Rattle.x86_operands.specs.Records.{Instance, RowRecord, template_instance}
+use Rattle.x86_operands.specs.Columns.{choose, instance_of_row}
 use Rattle.x86_operands.specs.Rows.{form_rows}
 use Rattle.x86_operands.specs.Templates.{is_read_at}
 use Rattle.x86_forms.specs.Groups.{is_group}
@@ -22,13 +22,13 @@ rows_use (row ∷ rest) = place_use row.at.place
 unfoldable pub modrm_use : Form → ModrmUse
 modrm_use f = rows_use (form_rows f)
 
--- the plan of a row whose form is a plain form, at a ModRM byte; the choice makes no difference
-unfoldable pub form_plan : TableRow → Prefixes → ℕ → Plan
-form_plan row p m = plan_of_row (choose (form_rows row.form) row false p m) row p m
+-- the instance of a row whose form is a plain form, at a ModRM byte; the choice makes no difference
+unfoldable pub form_instance : TableRow → Prefixes → ℕ → Instance
+form_instance row p m = instance_of_row (choose (form_rows row.form) row false p m) row p m
 
 -- It never refuses at the opcode.
 unfoldable pub form_record : TableRow → Prefixes → RowRecord
-form_record row p = record { at_opcode = None; modrm = modrm_use row.form; plan = λ m. form_plan row p m }
+form_record row p = record { at_opcode = None; modrm = modrm_use row.form; instance = λ m. form_instance row p m }
 
 -- ---- how a form goes on after its opcode byte
 
@@ -52,8 +52,8 @@ is_direct After.Nothing = true
 is_direct After.Fields = true
 is_direct after = false
 
--- A row of a plain form that is read at once at a ModRM byte: its template says the plan there.
+-- A row of a plain form that is read at once at a ModRM byte: its template says the instance there.
 pub record IsPlainRow (found : WordRow) (m : ℕ) (t : Template) : Type 0 where
   pub plain : is_group found.row.form ≡ false
   pub fits : is_read_at t m ≡ true
-  pub plan : (p : Prefixes) → template_plan t found.number found.row.opcode p m ≡ form_plan found.row p m
+  pub instance : (p : Prefixes) → template_instance t found.number found.row.opcode p m ≡ form_instance found.row p m

@@ -3,7 +3,7 @@
 -- Z the register of the opcode byte, A the accumulator. The columns: where (bare without ModRM, mem the memory forms of
 -- ModRM, reg the register forms, both; at a reg), the prefixes, the name, the operands, and the memory size (of the memory
 -- form, and of the register form). A form with one row whose name is that of the opcode map has a word for where.
--- specs/Words.antt has the words, specs/Columns.antt what they mean, and specs/PlanSteps.antt what the letters mean.
+-- specs/Words.antt has the words, specs/Columns.antt what they mean, and specs/RowSteps.antt what the letters mean.
 use Rattle.std.specs.Prelude.{List, [], ◌∷◌}
 use Rattle.x86_opcodes.specs.Names.{CBW, CDQ, CDQE, CQO, CWD, CWDE, ENQCMD, ENQCMDS, IRET, IRETD, IRETQ, JECXZ, LFS, LGS, LSS, MOVQ, NOP}
 use Rattle.x86_opcodes.specs.Names.{PEXTRD, PEXTRQ, PINSRD, PINSRQ}
@@ -11,12 +11,12 @@ use Rattle.x86_fields.specs.declared.sizes.Width.TheVariants.{B, W, D, Q, X, V, 
 use Rattle.x86_operands.specs.Vocabulary.{Form, BadOperand, Incomplete, SetsEs}
 use Rattle.x86_operands.specs.RowVocabulary.{TemplateRow, Own, Name}
 use Rattle.x86_forms.specs.declared.Form.TheVariants as form
-use Rattle.x86_operands.specs.declared.plans.RegisterSlot.TheVariants.{Reg, Rm, Third}
-use Rattle.x86_operands.specs.declared.plans.PointerSlot.TheVariants.{Deref, DerefEsi, DerefEdi, DerefRsi, DerefRdi}
+use Rattle.x86_operands.specs.declared.vocabulary.RegisterSlot.TheVariants.{Reg, Rm, Third}
+use Rattle.x86_operands.specs.declared.vocabulary.PointerSlot.TheVariants.{Deref, DerefEsi, DerefEdi, DerefRsi, DerefRdi}
 use Rattle.x86_regs.specs.declared.RegisterClass.TheVariants as class
 use Rattle.x86_operands.specs.declared.sizing.Size.TheVariants.{FarPointer, Bare, Call, Return, Duplicate, Stream, Scalar, Extract, Insert, Unpack, Extend}
-use Rattle.x86_operands.specs.declared.plans.OperandEncoding.TheVariants.{E, G, Gmm, Emm, Sr, A, I8, U8, U16, I32, Iv, Ivq, Ip, X16, Offset}
-use Rattle.x86_operands.specs.declared.plans.OperandEncoding.TheVariants.{Source, Destination, At, Implied}
+use Rattle.x86_operands.specs.declared.vocabulary.OperandEncoding.TheVariants.{E, G, Gmm, Emm, Sr, A, I8, U8, U16, I32, Iv, Ivq, Ip, X16, Offset}
+use Rattle.x86_operands.specs.declared.vocabulary.OperandEncoding.TheVariants.{Source, Destination, At, Implied}
 use Rattle.x86_operands.specs.declared.rows.When.TheVariants.{Always, With66, With67, RexW, RexR, Register0, Opcode}
 use Rattle.x86_operands.specs.Words.{bare, mem, reg, both, both_at, both_from, Zero, One, Two, Three, M, U, Umm, Z, unsigned_one, three}
 use Rattle.x86_operands.specs.Words.{Bytes, of_dq, size, size_of}

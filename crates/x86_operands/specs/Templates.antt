@@ -1,11 +1,13 @@
 -- What the operand template of a row means, and which templates are sound.
-use Rattle.std.specs.Prelude.{ℕ, Bool, true, false, ◌==◌, if◌then◌else◌, not, ◌&&◌, ◌||◌}
-use Rattle.x86_operands.specs.Vocabulary.{Width, OperandEncoding, Position, First, Second, Third, Fourth, Nowhere, Order, Size, Template}
+use Rattle.std.specs.Prelude.{ℕ, Bool, true, false, if◌then◌else◌, not, ◌&&◌, ◌||◌}
+use Rattle.x86_operands.specs.Vocabulary.{Width, OperandEncoding, Position, First, Second, Third, Fourth, Nowhere, Size, Template}
 use Rattle.x86_operands.specs.Vocabulary.{is_memory}
+use Rattle.x86_operands.specs.Orders.{is_order}
+use Rattle.x86_operands.specs.Encodings.{is_free, operation_size}
 use Rattle.x86_operands.specs.RowVocabulary.{Place, Register, TemplateRow}
 use Rattle.x86_fields.specs.declared.sizes.Width.TheVariants as width
-use Rattle.x86_operands.specs.declared.plans.OperandEncoding.TheVariants as encoding
-use Rattle.x86_operands.specs.declared.plans.RegisterSlot.TheVariants as slot
+use Rattle.x86_operands.specs.declared.vocabulary.OperandEncoding.TheVariants as encoding
+use Rattle.x86_operands.specs.declared.vocabulary.RegisterSlot.TheVariants as slot
 
 -- ---- the operands of a template
 
@@ -44,31 +46,17 @@ index_of_position Nowhere = 4
 
 -- the memory size at a ModRM byte
 abbrev pub size_at : Template → ℕ → Size
-size_at t m = if is_memory m then t.in_memory else t.in_register
+size_at t m = if has_address t.order.rm m then t.in_memory else t.in_register
+
+-- the template with the sizes that it has for an operation
+abbrev pub with_sizes : Template → ℕ → Template
+with_sizes t o = record t { in_memory = operation_size t.in_memory o; in_register = operation_size t.in_register o }
+
+-- neither size is one that the operation decides
+abbrev pub has_free_sizes : Template → Bool
+has_free_sizes t = is_free t.in_memory && is_free t.in_register
 
 -- ---- templates that are sound
-
-abbrev pub is_order_of : Position → Position → Position → Position → ℕ → Bool
-is_order_of Nowhere Nowhere Nowhere Nowhere n = n == 0
-is_order_of Nowhere Nowhere First Nowhere n = n == 1
-is_order_of Nowhere Nowhere First Second n = n == 2
-is_order_of First Nowhere Nowhere Nowhere n = n == 1
-is_order_of First Nowhere Second Nowhere n = n == 2
-is_order_of First Nowhere Second Third n = n == 3
-is_order_of Second Nowhere First Nowhere n = n == 2
-is_order_of Nowhere First Nowhere Nowhere n = n == 1
-is_order_of Nowhere First Second Nowhere n = n == 2
-is_order_of Nowhere Second First Nowhere n = n == 2
-is_order_of Nowhere First Second Third n = n == 3
-is_order_of Second First Nowhere Nowhere n = n == 2
-is_order_of First Second Nowhere Nowhere n = n == 2
-is_order_of Second First Third Nowhere n = n == 3
-is_order_of First Second Third Nowhere n = n == 3
-is_order_of First Second Third Fourth n = n == 4
-is_order_of a b c d n = false
-
-abbrev pub is_order : Order → Bool
-is_order o = is_order_of o.reg o.rm o.last o.extra o.count
 
 -- the letters of reg and rm, which a template has as such
 abbrev pub is_field : OperandEncoding → Bool

@@ -11,8 +11,8 @@ use Rattle.x86_operands.specs.Vocabulary.{Keeps, Size, Template, Verdict, Accept
 use Rattle.x86_operands.specs.Vocabulary.{Position, First, Second, Third, Fourth, Nowhere}
 use Rattle.x86_operands.specs.RowVocabulary.{Bare, ByReg, ByRm, Either, Memory, Name, Names, Own, Place, Reg, Register, Rm, TemplateRow, When, Where}
 use Rattle.x86_operands.specs.Templates.{somewhere}
-use Rattle.x86_operands.specs.declared.plans.RegisterSlot.TheVariants as slot
-use Rattle.x86_operands.specs.declared.plans.OperandEncoding.TheVariants as encoding
+use Rattle.x86_operands.specs.declared.vocabulary.RegisterSlot.TheVariants as slot
+use Rattle.x86_operands.specs.declared.vocabulary.OperandEncoding.TheVariants as encoding
 use Rattle.x86_operands.specs.declared.rows.When.TheVariants.{Always, RexW, With66}
 use Rattle.x86_operands.specs.declared.rows.Reg.TheVariants as regs
 use Rattle.x86_operands.specs.declared.rows.Rm.TheVariants as rms
@@ -82,7 +82,7 @@ U w = encoding.E w
 abbrev pub Umm : OperandEncoding
 Umm = encoding.Emm
 
--- the register of the opcode byte, whose number a plan has
+-- the register of the opcode byte, whose number an instance has
 abbrev pub Z : RegisterSlot → Width → OperandEncoding
 Z at w = encoding.Z at w 0
 

@@ -1,14 +1,14 @@
 //! What a row has after its opcode byte, known from a ModRM byte alone.
 ghost use Rattle.std.specs.Prelude.{◌≡◌, ◌≤◌};
 ghost use Rattle.x86_fields.specs.Pieces.{option_bytes};
-ghost use Rattle.x86_operands.specs.Asks.{immediate_width, modrm_of, part_width, plan_ask};
-ghost use Rattle.x86_operands.specs.Columns.{plan_of_row};
+ghost use Rattle.x86_operands.specs.Asks.{immediate_width, modrm_of, part_width, template_ask};
+ghost use Rattle.x86_forms.specs.Words.{carried};
 ghost use Rattle.x86_operands.specs.Encodings.{resolved};
 
 use crate::order::Position;
-use crate::plans::{Fault, ModrmUse, OperandEncoding, Verdict};
 use crate::rows::TemplateRow;
 use crate::templates::Template;
+use crate::vocabulary::{Fault, ModrmUse, OperandEncoding, Verdict};
 use x86_fields::{ModRM, Prefixes};
 use x86_forms::TableRow;
 
@@ -81,8 +81,8 @@ fn part_width(at: Position, encoding: OperandEncoding, num: u8, prefixes: &Prefi
 impl TemplateRow {
     /// Which parts the row has at a ModRM byte that is used so; `own` is the row in the opcode map.
     pub fn ask(&self, usage: ModrmUse, own: &TableRow, prefixes: &Prefixes, modrm: ModRM) -> Ask
-        ensures { result ≡ plan_ask usage modrm
-            (plan_of_row self.now own.now prefixes.now modrm) }
+        ensures { result ≡ template_ask usage modrm self.now.template (carried own.now.form)
+            prefixes.now self.now.verdict }
     {
         let Template {
             order,

@@ -5,16 +5,16 @@ ghost use Rattle.x86_fields.specs.Steps.{outcome};
 ghost use Rattle.x86_forms.specs.Groups.{is_group};
 ghost use Rattle.x86_forms.specs.Words.{IsForm};
 ghost use Rattle.x86_operands.specs.Asks.{ask_of};
-ghost use Rattle.x86_operands.specs.Columns.{is_placed, plan_of_row};
+ghost use Rattle.x86_operands.specs.Columns.{is_placed, instance_of_row};
 ghost use Rattle.x86_operands.specs.Forms.{form_record, modrm_use, place_use};
-ghost use Rattle.x86_operands.specs.PlanSteps.{record_step};
+ghost use Rattle.x86_operands.specs.RowSteps.{record_step};
 ghost use Rattle.x86_operands.specs.Rows.{form_rows};
 ghost use Rattle.x86_operands.specs.Templates.{is_sound_row};
 
-use crate::plans::ModrmUse;
 use crate::reader::{Reading, read_modrm};
 use crate::rows::{Place, TemplateRow, choose};
 use crate::tables::{ROWS, SPANS};
+use crate::vocabulary::ModrmUse;
 use crate::{Ask, used_modrm};
 use x86_arch::Reader;
 use x86_fields::{DecodeError, ModRM, Prefixes};
@@ -71,10 +71,10 @@ pub fn form_modrm(form: Form) -> ModrmUse
 }
 
 /// The row of a plain form at a ModRM byte; `own` is the row in the opcode map.
-#[tactic(auto, unfolding(crate::specs::Forms::form_plan, crate::specs::Forms::form_record))]
+#[tactic(auto, unfolding(crate::specs::Forms::form_instance, crate::specs::Forms::form_record))]
 pub fn chosen_row(own: &TableRow, prefixes: &Prefixes, modrm: ModRM) -> TemplateRow
-    ensures plan { plan_of_row result own.now prefixes.now modrm
-        ≡ (form_record own.now prefixes.now).plan modrm }
+    ensures instance { instance_of_row result own.now prefixes.now modrm
+        ≡ (form_record own.now prefixes.now).instance modrm }
     ensures sound { is_sound_row result ≡ true }
     ensures placed { is_placed result.at.place modrm ≡ true }
 {
@@ -86,7 +86,7 @@ pub fn chosen_row(own: &TableRow, prefixes: &Prefixes, modrm: ModRM) -> Template
 ///
 /// The bytes taken are exactly those that the record has; after a refusal, those that it takes before; at
 /// `ExhaustedInput`, the pieces before the first that isn't whole.
-#[tactic(auto, unfolding(crate::specs::Forms::form_record, crate::specs::PlanSteps::record_step))]
+#[tactic(auto, unfolding(crate::specs::Forms::form_record, crate::specs::RowSteps::record_step))]
 pub fn read_form<T: Reader<u64, u8>>(
     reader: &mut T,
     row: TableRow,
@@ -106,7 +106,7 @@ pub fn read_form<T: Reader<u64, u8>>(
 /// ModRM. Where the row refuses with every suffix, the answer is open.
 ///
 /// For the row of 03, which is ADD, at ModRM 44 this is a ModRM of the memory form, and nothing else.
-#[tactic(auto, unfolding(crate::specs::Forms::form_record, crate::specs::Asks::ask_of))]
+#[tactic(auto, using(crate::proofs::TemplateLemmas::row_asks), unfolding(crate::specs::Forms::form_record, crate::specs::Asks::ask_of))]
 pub fn form_ask(row: TableRow, prefixes: Prefixes, modrm: u8) -> Ask
     requires plain { is_group row.form ≡ false }
     requires carried { IsForm row.form }

@@ -13,9 +13,9 @@ ghost use Rattle.x86_operands.specs.Vocabulary.{DecodeError, Fault, Incomplete, 
 ghost use Rattle.x86_operands.specs.Columns.{is_prefixed};
 ghost use Rattle.x86_operands.specs.Forms.{form_record};
 ghost use Rattle.x86_operands.specs.Operands.{operand_form, operand_address, shape};
-ghost use Rattle.x86_operands.specs.Pieces.{SpellsRow, RefusesRow, IsReadRow, IsRefusedRow, IsOpenRow, AreTied, IsOrdered, names_modrm, plan_spelled, HasShapeAt};
-ghost use Rattle.x86_operands.specs.Plans.{RowRecord};
-ghost use Rattle.x86_operands.specs.PlanSteps.{record_step, error_of};
+ghost use Rattle.x86_operands.specs.Pieces.{SpellsRow, RefusesRow, IsReadRow, IsRefusedRow, IsOpenRow, AreTied, names_modrm, instance_spelled, HasShapeAt};
+ghost use Rattle.x86_operands.specs.Records.{RowRecord};
+ghost use Rattle.x86_operands.specs.RowSteps.{record_step, error_of};
 ghost use Rattle.x86_operands.specs.declared.rows.When.TheVariants.{NoPrefix, Only66, F2, F3};
 
 use crate::{Ask, MemoryAccessSize, Operand, Slot};
@@ -35,12 +35,12 @@ pub fn plain_forms_pass_the_opcode()
     ensures { (row : TableRow) (p : Prefixes) → (form_record row p).at_opcode ≡ None }
 {}
 
-/// Each plain form is built: no plan of its record refuses as `Incomplete`, so `read_form` never answers
+/// Each plain form is built: no instance of its record refuses as `Incomplete`, so `read_form` never answers
 /// `IncompleteDecoder`.
 #[tactic(auto, using(crate::proofs::PlainLemmas::plain_built, crate::proofs::PlainLemmas::plain_read))]
 pub fn plain_forms_are_built()
-    ensures plan { (row : TableRow) (p : Prefixes) (m : ℕ) →
-        is_group row.form ≡ false → ((form_record row p).plan m).verdict ≢ Refuses Incomplete }
+    ensures instance { (row : TableRow) (p : Prefixes) (m : ℕ) →
+        is_group row.form ≡ false → ((form_record row p).instance m).verdict ≢ Refuses Incomplete }
     ensures answer { (row : TableRow) (p : Prefixes) (s : State ℕ) → is_group row.form ≡ false →
         (record_step (form_record row p) p s).answer ≢ Err IncompleteDecoder }
 {}
@@ -52,10 +52,10 @@ pub fn one_prefix_column_holds()
         ≡ 1 }
 {}
 
-/// The memory size of each plan is at most 64 bytes.
+/// The memory size of each instance is at most 64 bytes.
 #[tactic(auto, using(crate::proofs::PlainLemmas::plain_small))]
 pub fn plain_sizes_are_small()
-    ensures { (row : TableRow) (p : Prefixes) (m : ℕ) → ((form_record row p).plan m).size ≤ 64 }
+    ensures { (row : TableRow) (p : Prefixes) (m : ℕ) → ((form_record row p).instance m).size ≤ 64 }
 {}
 
 /// The shape of raw fields has their address form, so `address_of` and `Operand::address` of the shape agree at every
@@ -92,7 +92,7 @@ pub fn rows_are_read()
 {}
 
 /// No reader of a record answers `InvalidPrefixes` or `TooLong`, and `IncompleteDecoder` comes only where the record
-/// or one of its plans refuses so.
+/// or one of its instances refuses so.
 #[tactic(auto, using(crate::proofs::RecordLemmas::row_has_no_prefixes, crate::proofs::RecordLemmas::row_has_no_length, crate::proofs::RecordLemmas::row_left_out))]
 pub fn rows_refuse_by_faults()
     ensures no_prefixes { (r : RowRecord) (p : Prefixes) (s : State ℕ) →
@@ -101,19 +101,17 @@ pub fn rows_refuse_by_faults()
         (record_step r p s).answer ≢ Err TooLong }
     ensures left_out { (r : RowRecord) (p : Prefixes) (s : State ℕ) →
         (record_step r p s).answer ≡ Err IncompleteDecoder → (r.at_opcode ≡ Some Incomplete)
-        ⊎ ((m : ℕ) × ((r.plan m).verdict ≡ Refuses Incomplete)) }
+        ⊎ ((m : ℕ) × ((r.instance m).verdict ≡ Refuses Incomplete)) }
 {}
 
 /// A reading has at most four operands. None of them is `Nothing`, masked, rounded or an unsigned immediate of 32 or
-/// 64 bits, the slot of an immediate has that immediate, and after the last operand there is `Nothing`. This is of
-/// records whose operands are in order, as those of all rows are.
+/// 64 bits, the slot of an immediate has that immediate, and after the last operand there is `Nothing`.
 #[tactic(auto, using(crate::proofs::TieLemmas::read_tied))]
 pub fn readings_are_tied()
     ensures read { (r : RowRecord) (p : Prefixes) (s : State ℕ) (reading : Reading) →
-        IsOrdered r → (record_step r p s).answer ≡ Ok reading → AreTied reading }
+        (record_step r p s).answer ≡ Ok reading → AreTied reading }
     ensures spelled { (r : RowRecord) (p : Prefixes) (bytes : List ℕ) (reading : Reading) →
-        IsOrdered r → SpellsRow r p bytes reading → AreTied reading }
-    ensures in_order { (row : TableRow) (p : Prefixes) → IsOrdered (form_record row p) }
+        SpellsRow r p bytes reading → AreTied reading }
 {}
 
 /// Where a record writes ModRM's memory operand, it is the shape of the raw fields. Their 67 is that of the prefixes.
@@ -121,9 +119,9 @@ pub fn readings_are_tied()
 pub fn memory_operands_are_shapes()
     ensures shapes { (r : RowRecord) (p : Prefixes)
         (bytes : List ℕ) (reading : Reading) (row_spelled : SpellsRow r p bytes reading)
-        (raw : Raw) → IsOrdered r →
+        (raw : Raw) →
         row_spelled.tail_spelled.pieces.memory ≡ Some raw → (k : ℕ) →
-        names_modrm (plan_spelled r p bytes reading row_spelled) k ≡ true
+        names_modrm (instance_spelled r p bytes reading row_spelled) k ≡ true
         → HasShapeAt reading k raw }
     ensures address_size { (r : RowRecord) (p : Prefixes)
         (bytes : List ℕ) (reading : Reading) (row_spelled : SpellsRow r p bytes reading)

@@ -3,24 +3,23 @@
 ghost use Rattle.std.specs.Prelude.{◌≡◌, ◌<◌, ◌≢◌, ℕ, Option, None, true, OnOk};
 ghost use Rattle.x86_fields.specs.Steps.{outcome};
 ghost use Rattle.x86_operands.specs.Vocabulary.{Nowhere, Prefixes, Raw, is_memory};
-ghost use Rattle.x86_operands.specs.PlanSteps.{known_operand, leading_read, no_operands, other_read, put_at, put_encoded, put_in, read_plan, reading_with, register_slot, rm_read};
+ghost use Rattle.x86_operands.specs.RowSteps.{known_operand, leading_read, no_operands, other_read, put_at, put_encoded, put_in, read_instance, reading_with, register_slot, rm_read};
 ghost use Rattle.x86_operands.specs.OperandList.{operand_in, sized_by, slot_in, value_if_ok, with_size};
 ghost use Rattle.x86_operands.specs.Places.{place_after_address};
 ghost use Rattle.x86_operands.specs.Encodings.{resolved};
-ghost use Rattle.x86_operands.specs.Plans.{template_plan};
-ghost use Rattle.x86_operands.specs.Templates.{fits_form, fixed_encoding, is_last, is_read_at, reg_encoding, reg_part, rm_encoding};
+ghost use Rattle.x86_operands.specs.Records.{template_instance};
+ghost use Rattle.x86_operands.specs.Templates.{fits_form, fixed_encoding, has_address, has_free_sizes, is_last, is_read_at, reg_encoding, reg_part, rm_encoding};
 
 use crate::order::Position;
 use crate::places::place_of;
-use crate::plans::{OperandEncoding, RegisterSlot};
 use crate::shapes::put_shape;
+use crate::vocabulary::{OperandEncoding, RegisterSlot};
 use crate::{Operand, Slot, Template};
 use x86_arch::Reader;
 use x86_fields::{
     DecodeError, ModRM, PrefixedModRM, Prefixes, Width, extend, read_raw, read_u8, read_u16,
     read_u32, read_u64,
 };
-use x86_opcodes::Opcode;
 use x86_regs::{RegSpec, RegisterClass};
 
 /// The operands of an instruction, in the order in which a listing names them.
@@ -68,7 +67,7 @@ impl Operands {
     }
 
     /// Writes the operand of a last encoding at an index: an immediate, or a constant that no byte spells.
-    #[tactic(auto, unfolding(crate::specs::PlanSteps::operand_step))]
+    #[tactic(auto, unfolding(crate::specs::RowSteps::operand_step))]
     #[inline(always)]
     pub(crate) fn put_encoded<T: Reader<u64, u8>>(
         &mut self,
@@ -101,7 +100,7 @@ impl Operands {
             OperandEncoding::Implied(slot, num, class) => {
                 self.put_in_slot(at, slot, RegSpec::of(num, class));
             }
-            // No last operand of a plan has another encoding.
+            // No last operand of an instance has another encoding.
             _ => put!(self at ImmU8 ImmediateU8 0),
         }
         Ok(())
@@ -136,6 +135,9 @@ impl Operands {
             Position::Nowhere => {}
             at => {
                 let reg = match width {
+                    width if width.is_regular() => {
+                        fields.register(width, fields.prefixes.reg_number(fields.modrm))
+                    }
                     Width::Mm => RegSpec::mm(fields.modrm.reg_field()),
                     width => fields.reg(width),
                 };
@@ -152,6 +154,9 @@ impl Operands {
             fields.now.prefixes.now fields.now.modrm None) self.old }
     {
         let reg = match width {
+            width if width.is_regular() => {
+                fields.register(width, fields.prefixes.rm_number(fields.modrm))
+            }
             Width::Mm => RegSpec::mm(fields.modrm.rm_field()),
             Width::St => RegSpec::of(fields.modrm.rm_field(), RegisterClass::ST),
             width => fields.rm(width),
@@ -182,20 +187,15 @@ impl Operands {
         }
     }
 
-    /// The memory size, in the memory form or in the register form.
+    /// The memory size, where SIB and displacement are there and where they aren't.
     #[inline(always)]
-    fn put_size(
-        &mut self,
-        in_memory: bool,
-        template: &Template,
-        opcode: Opcode,
-        fields: &PrefixedModRM<'_>,
-    )
-        requires { in_memory ≡ is_memory fields.now.modrm }
-        ensures { self.new ≡ with_size template.now opcode fields.now.prefixes.now fields.now.modrm
+    fn put_size(&mut self, addressed: bool, template: &Template, fields: &PrefixedModRM<'_>)
+        requires address { addressed ≡ has_address template.now.order.rm fields.now.modrm }
+        requires free { has_free_sizes template.now ≡ true }
+        ensures { self.new ≡ with_size template.now fields.now.prefixes.now fields.now.modrm
             self.old }
     {
-        self.mem_size = template.mem_size(in_memory, opcode, fields.sizes);
+        self.mem_size = template.mem_size(addressed, fields.sizes);
     }
 
     /// The operand of rm in the memory form.
@@ -226,25 +226,25 @@ impl Operands {
     #[inline(always)]
     fn read_rm<T: Reader<u64, u8>>(
         &mut self,
-        at: Position,
         reader: &mut T,
         template: &Template,
-        opcode: Opcode,
         fields: &PrefixedModRM<'_>,
     ) -> Result<(), DecodeError>
-        requires position { at ≢ Nowhere }
+        requires position { template.now.order.rm ≢ Nowhere }
         requires form { fits_form template.now fields.now.modrm ≡ true }
+        requires free { has_free_sizes template.now ≡ true }
         ensures { outcome (value_if_ok result self.new) (T.state reader.new)
-            ≡ rm_read at (rm_encoding template.now.rm) fields.now.prefixes.now fields.now.modrm
-            (with_size template.now opcode fields.now.prefixes.now fields.now.modrm self.old)
+            ≡ rm_read template.now.order.rm (rm_encoding template.now.rm) fields.now.prefixes.now
+            fields.now.modrm
+            (with_size template.now fields.now.prefixes.now fields.now.modrm self.old)
             (T.state reader.old) }
     {
         if fields.in_memory {
-            self.put_size(true, template, opcode, fields);
-            self.read_memory(at, reader, template, fields)
+            self.put_size(true, template, fields);
+            self.read_memory(template.order.rm, reader, template, fields)
         } else {
-            self.put_size(false, template, opcode, fields);
-            self.put_rm(at, template.rm, fields);
+            self.put_size(false, template, fields);
+            self.put_rm(template.order.rm, template.rm, fields);
             Ok(())
         }
     }
@@ -256,26 +256,26 @@ impl Operands {
         &mut self,
         reader: &mut T,
         template: &Template,
-        opcode: Opcode,
         num: u8,
         fields: &PrefixedModRM<'_>,
     ) -> Result<(), DecodeError>
         requires small { num < 8 }
         requires form { fits_form template.now fields.now.modrm ≡ true }
+        requires free { has_free_sizes template.now ≡ true }
         ensures { outcome (value_if_ok result self.new) (T.state reader.new)
             ≡ leading_read template.now.order (reg_part template.now num)
             (rm_encoding template.now.rm) fields.now.prefixes.now fields.now.modrm
-            (with_size template.now opcode fields.now.prefixes.now fields.now.modrm self.old)
+            (with_size template.now fields.now.prefixes.now fields.now.modrm self.old)
             (T.state reader.old) }
     {
         match template.order.rm {
             Position::Nowhere => {
-                self.put_size(fields.in_memory, template, opcode, fields);
+                self.put_size(false, template, fields);
                 self.put_fixed(template, num, fields);
                 Ok(())
             }
             _ => {
-                self.read_rm(template.order.rm, reader, template, opcode, fields)?;
+                self.read_rm(reader, template, fields)?;
                 self.put_reg(template.order.reg, template.reg, fields);
                 Ok(())
             }
@@ -299,14 +299,13 @@ impl Operands {
     }
 
     /// The operands of ModRM or of the opcode byte, how many operands there are, their memory size, and the place after
-    /// SIB and displacement. `opcode` is the one of the opcode map.
+    /// SIB and displacement.
     #[tactic(auto, using(crate::proofs::InPlaceLemmas::address_is_read))]
     #[inline(always)]
     pub(crate) fn read_first<T: Reader<u64, u8>>(
         &mut self,
         reader: &mut T,
         template: &Template,
-        opcode: Opcode,
         num: u8,
         fields: &PrefixedModRM<'_>,
         address_end: &mut u8,
@@ -314,28 +313,28 @@ impl Operands {
         requires blank { self.old ≡ no_operands }
         requires small { num < 8 }
         requires form { fits_form template.now fields.now.modrm ≡ true }
+        requires free { has_free_sizes template.now ≡ true }
         ensures read { outcome (value_if_ok result self.new) (T.state reader.new)
             ≡ leading_read template.now.order (reg_part template.now num)
             (rm_encoding template.now.rm) fields.now.prefixes.now fields.now.modrm
-            (sized_by template.now opcode fields.now.prefixes.now fields.now.modrm)
+            (sized_by template.now fields.now.prefixes.now fields.now.modrm)
             (T.state reader.old) }
         ensures address { OnOk result (address_end.new ≡ place_after_address
             template.now.order.rm fields.now.prefixes.now fields.now.modrm (T.state reader.old)) }
     {
         self.count = template.order.count;
-        self.read_leading(reader, template, opcode, num, fields)?;
+        self.read_leading(reader, template, num, fields)?;
         *address_end = place_of(reader.offset());
         Ok(())
     }
 
     /// The operands of a row that has nothing but what is read at once, and the place after SIB and displacement.
-    #[tactic(auto, using(crate::proofs::InPlaceLemmas::plan_is_read, crate::proofs::TemplateLemmas::read_parts))]
+    #[tactic(auto, using(crate::proofs::InPlaceLemmas::instance_is_read, crate::proofs::TemplateLemmas::read_parts))]
     #[inline(always)]
     pub fn read<T: Reader<u64, u8>>(
         &mut self,
         reader: &mut T,
         template: &Template,
-        opcode: Opcode,
         num: u8,
         prefixes: &Prefixes,
         modrm: ModRM,
@@ -344,16 +343,18 @@ impl Operands {
         requires blank { self.old ≡ no_operands }
         requires small { num < 8 }
         requires fits { is_read_at template.now modrm ≡ true }
-        ensures read { outcome (value_if_ok result (reading_with opcode prefixes.now self.new))
-            (T.state reader.new) ≡ read_plan
-            (template_plan template.now num opcode prefixes.now modrm) prefixes.now modrm
+        requires free { has_free_sizes template.now ≡ true }
+        ensures read { (opcode : ℕ) →
+            outcome (value_if_ok result (reading_with opcode prefixes.now self.new))
+            (T.state reader.new) ≡ read_instance
+            (template_instance template.now num opcode prefixes.now modrm) prefixes.now modrm
             (T.state reader.old) }
         ensures address { OnOk result
             (address_end.new ≡ place_after_address template.now.order.rm prefixes.now modrm
             (T.state reader.old)) }
     {
         let fields = PrefixedModRM::of(prefixes, modrm);
-        self.read_first(reader, template, opcode, num, &fields, address_end)?;
+        self.read_first(reader, template, num, &fields, address_end)?;
         match template.order.last {
             Position::Nowhere => Ok(()),
             at => self.read_last(at, reader, template.last, prefixes),

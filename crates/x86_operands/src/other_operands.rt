@@ -3,14 +3,14 @@
 ghost use Rattle.std.specs.Prelude.{◌≡◌, ◌<◌, Option, true, false};
 ghost use Rattle.x86_fields.specs.Steps.{outcome};
 ghost use Rattle.x86_operands.specs.Vocabulary.{Raw, reg_spec};
-ghost use Rattle.x86_operands.specs.PlanSteps.{other_read, pointer_class, pointer_slot, put_at, put_encoded};
+ghost use Rattle.x86_operands.specs.RowSteps.{other_read, pointer_class, pointer_slot, put_at, put_encoded};
 ghost use Rattle.x86_operands.specs.OperandList.{value_if_ok};
 ghost use Rattle.x86_operands.specs.Encodings.{resolved};
 ghost use Rattle.x86_operands.specs.Templates.{is_field};
 
 use crate::operand_list::{Operands, put};
 use crate::order::Position;
-use crate::plans::{OperandEncoding, PointerSlot};
+use crate::vocabulary::{OperandEncoding, PointerSlot};
 use crate::{Operand, Slot};
 use x86_arch::Reader;
 use x86_fields::{DecodeError, ModRM, Prefixes, read_u8, read_u16, read_u32, read_u64};
@@ -51,7 +51,7 @@ impl Operands {
     }
 
     /// What an operand yields that is none of the letters of reg and rm, at an index: one call, since it is large.
-    #[tactic(auto, unfolding(crate::specs::PlanSteps::operand_step))]
+    #[tactic(auto, unfolding(crate::specs::RowSteps::operand_step))]
     #[inline(never)]
     pub(crate) fn put_other<T: Reader<u64, u8>>(
         &mut self,
@@ -99,7 +99,7 @@ impl Operands {
             }
             OperandEncoding::Source => self.put_pointer(at, 6, prefixes),
             OperandEncoding::Destination => self.put_pointer(at, 7, prefixes),
-            // No plan has these.
+            // No instance has these.
             OperandEncoding::Jv | OperandEncoding::Offset => put!(self at ImmU8 ImmediateU8 0),
             encoding => return self.put_encoded(at, reader, encoding),
         }

@@ -4,16 +4,16 @@ ghost use Rattle.std.specs.Prelude.{◌≡◌, ℕ, true, OnOk};
 ghost use Rattle.x86_arch.specs.Reader.{State};
 ghost use Rattle.x86_fields.specs.Steps.{outcome};
 ghost use Rattle.x86_forms.specs.Words.{IsForm};
-ghost use Rattle.x86_operands.specs.Columns.{is_placed, plan_of_row};
-ghost use Rattle.x86_operands.specs.Places.{plan_places};
-ghost use Rattle.x86_operands.specs.PlanSteps.{changed, error_of, no_operands, read_modrm, read_opcode, read_plan, reading_with, refuse_fault, suffix_opcode};
+ghost use Rattle.x86_operands.specs.Columns.{is_placed, instance_of_row};
+ghost use Rattle.x86_operands.specs.Places.{instance_places};
+ghost use Rattle.x86_operands.specs.RowSteps.{changed, error_of, no_operands, read_modrm, read_opcode, read_instance, reading_with, refuse_fault, suffix_opcode};
 ghost use Rattle.x86_operands.specs.Asks.{uses_suffix};
 ghost use Rattle.x86_operands.specs.Templates.{is_sound_row};
 
 use crate::operand_list::Operands;
 use crate::places::Places;
-use crate::plans::{Fault, ModrmUse, PrefixChange, Verdict};
 use crate::rows::TemplateRow;
+use crate::vocabulary::{Fault, ModrmUse, PrefixChange, Verdict};
 use crate::{Operand, Slot, Template, used_modrm};
 use x86_arch::Reader;
 use x86_fields::{DecodeError, ModRM, PrefixedModRM, Prefixes, next_byte};
@@ -58,7 +58,7 @@ pub fn refuse_fault(fault: Option<Fault>) -> Result<(), DecodeError>
 }
 
 /// The opcode that a suffix byte names (AMD APM volume 3, appendix A.1.2).
-#[tactic(auto, unfolding(crate::specs::PlanSteps::suffix_opcode))]
+#[tactic(auto, unfolding(crate::specs::RowSteps::suffix_opcode))]
 pub fn suffix_opcode(byte: u8) -> Option<Opcode>
     ensures { result ≡ suffix_opcode byte }
 {
@@ -133,7 +133,7 @@ impl TemplateRow {
 
     /// What the row has after its ModRM, written into blank operands, and the places of its parts; `own` is the row in
     /// the opcode map.
-    #[tactic(auto, unfolding(crate::specs::PlanSteps::read_plan), using(crate::proofs::TemplateLemmas::sound_template, crate::proofs::TemplateLemmas::sound_parts, crate::proofs::TemplateLemmas::fits_placed))]
+    #[tactic(auto, unfolding(crate::specs::RowSteps::read_instance), using(crate::proofs::TemplateLemmas::sound_template, crate::proofs::TemplateLemmas::sound_parts, crate::proofs::TemplateLemmas::fits_placed, crate::proofs::TemplateLemmas::sizes_with, crate::proofs::TemplateLemmas::in_order))]
     pub fn read_into<T: Reader<u64, u8>>(
         &self,
         own: &TableRow,
@@ -150,29 +150,23 @@ impl TemplateRow {
         requires placed { is_placed self.now.at.place modrm ≡ true }
         ensures read { outcome
             (value_if_ok result (reading_with opcode.new prefixes.new operand_list.new))
-            (T.state reader.new) ≡ read_plan
-            (plan_of_row self.now own.now prefixes.old modrm) prefixes.old modrm
+            (T.state reader.new) ≡ read_instance
+            (instance_of_row self.now own.now prefixes.old modrm) prefixes.old modrm
             (T.state reader.old) }
-        ensures places { OnOk result (places.new ≡ plan_places
-            (plan_of_row self.now own.now prefixes.old modrm) prefixes.old modrm
+        ensures places { OnOk result (places.new ≡ instance_places
+            (instance_of_row self.now own.now prefixes.old modrm) prefixes.old modrm
             (T.state reader.old) places.old.opcode_end) }
     {
+        let template = self.template.with_sizes(own.opcode);
         let Template {
             order,
             last,
             extra,
             ..
-        } = self.template;
+        } = template;
         let num = own.form.carried();
         let fields = PrefixedModRM::of(prefixes, modrm);
-        operand_list.read_first(
-            reader,
-            &self.template,
-            own.opcode,
-            num,
-            &fields,
-            &mut places.address_end,
-        )?;
+        operand_list.read_first(reader, &template, num, &fields, &mut places.address_end)?;
         operand_list.read_other(order.last, reader, last, num, prefixes, modrm)?;
         operand_list.read_other(order.extra, reader, extra, num, prefixes, modrm)?;
         places.has_suffix = self.has_suffix();
@@ -192,8 +186,8 @@ impl TemplateRow {
         requires form { IsForm own.now.form }
         requires sound { is_sound_row self.now ≡ true }
         requires placed { is_placed self.now.at.place modrm ≡ true }
-        ensures { outcome result (T.state reader.new) ≡ read_plan
-            (plan_of_row self.now own.now prefixes modrm) prefixes modrm
+        ensures { outcome result (T.state reader.new) ≡ read_instance
+            (instance_of_row self.now own.now prefixes modrm) prefixes modrm
             (T.state reader.old) }
     {
         let mut prefixes = prefixes;

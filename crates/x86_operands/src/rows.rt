@@ -4,8 +4,8 @@ ghost use Rattle.std.specs.List.{list_all};
 ghost use Rattle.x86_operands.specs.Columns.{choose, is_placed, is_prefixed, is_reg, is_rm, is_named, opcode_of};
 ghost use Rattle.x86_operands.specs.Templates.{is_sound_row};
 
-use crate::plans::{OperandEncoding, PrefixChange, Verdict};
 use crate::templates::Template;
+use crate::vocabulary::{OperandEncoding, PrefixChange, Verdict};
 use x86_fields::{Mandatory, ModRM, Prefixes};
 use x86_forms::TableRow;
 use x86_opcodes::Opcode;

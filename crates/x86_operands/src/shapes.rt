@@ -1,6 +1,6 @@
 //! The memory operand of raw fields.
 ghost use Rattle.std.specs.Prelude.{◌≡◌, ◌<◌};
-ghost use Rattle.x86_operands.specs.PlanSteps.{put_at};
+ghost use Rattle.x86_operands.specs.RowSteps.{put_at};
 ghost use Rattle.x86_operands.specs.Operands.{shape};
 
 use crate::operand_list::Operands;

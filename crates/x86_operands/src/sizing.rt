@@ -1,8 +1,8 @@
 //! Sizes of memory, by W and 66, or by the operation.
-ghost use Rattle.std.specs.Prelude.{◌≡◌, ◌≢◌};
+ghost use Rattle.std.specs.Prelude.{◌≡◌, true, false};
 ghost use Rattle.x86_fields.specs.Sizes.{size_prefixes};
 ghost use Rattle.x86_operands.specs.Vocabulary.{Prefixes};
-ghost use Rattle.x86_operands.specs.Encodings.{named_size, size_bytes};
+ghost use Rattle.x86_operands.specs.Encodings.{bytes_under, is_free, operation_size};
 
 use x86_fields::SizePrefixes;
 use x86_opcodes::Opcode;
@@ -58,90 +58,99 @@ const SIZES: &[[u8; 4]; 14] = &[
 ];
 
 impl Size {
-    /// The bytes. From `Size::Call` on the operation alone decides them.
+    /// The bytes of a size that no operation decides.
     #[inline(always)]
-    pub fn bytes(self, opcode: Opcode, sizes: SizePrefixes) -> u8
-        ensures { (p : Prefixes) → sizes ≡ size_prefixes p → result ≡ size_bytes self opcode p }
+    pub fn bytes(self, sizes: SizePrefixes) -> u8
+        requires { is_free self ≡ true }
+        ensures { (p : Prefixes) → sizes ≡ size_prefixes p → result ≡ bytes_under self p }
     {
-        if self as usize >= Size::Call as usize {
-            return named_size(self, opcode);
-        }
         SIZES[self as usize][sizes as usize]
     }
-}
 
-/// A size that the operation alone decides, and 0 for the others. It is a cold call: opcode bytes have the size that their
-/// operation decides, so the short walk asks for groups alone.
-#[cold]
-#[inline(never)]
-fn named_size(size: Size, opcode: Opcode) -> u8
-    ensures { result ≡ named_size size opcode }
-{
-    match size {
-        Size::Call if opcode == Opcode::CALL => 8,
-        Size::Call => 0,
-        size => rare_size(size, opcode),
+    /// Whether no operation decides it: from `Size::Call` on the operation alone does.
+    #[inline(always)]
+    pub fn is_free(self) -> bool
+        ensures { result ≡ is_free self }
+    {
+        (self as usize) < Size::Call as usize
+    }
+
+    /// The size that it is for an operation. `opcode` is the one of the opcode map.
+    #[inline(always)]
+    pub fn of_operation(self, opcode: Opcode) -> Size
+        ensures size { result ≡ operation_size self opcode }
+        ensures free { is_free result ≡ true }
+    {
+        if self.is_free() {
+            return self;
+        }
+        operation_size(self, opcode)
     }
 }
 
-/// The same of a size that few encodings have: of all but CALL's.
+/// A size that the operation decides. It is a call, since few rows have one.
 #[inline(never)]
-fn rare_size(size: Size, opcode: Opcode) -> u8
-    requires { size ≢ Size.Call }
-    ensures { result ≡ named_size size opcode }
+fn operation_size(size: Size, opcode: Opcode) -> Size
+    requires { is_free size ≡ false }
+    ensures size { result ≡ operation_size size opcode }
+    ensures free { is_free result ≡ true }
 {
     match size {
+        Size::Call => match opcode {
+            Opcode::CALL => Size::Eight,
+            _ => Size::Zero,
+        },
         Size::Bare => match opcode {
-            Opcode::RETURN | Opcode::PUSHF | Opcode::POPF | Opcode::LEAVE => 8,
-            Opcode::RETF => 10,
-            Opcode::XLAT => 1,
-            _ => 0,
+            Opcode::RETURN | Opcode::PUSHF | Opcode::POPF | Opcode::LEAVE => Size::Eight,
+            Opcode::RETF => Size::Ten,
+            Opcode::XLAT => Size::One,
+            _ => Size::Zero,
         },
         Size::Return => match opcode {
-            Opcode::RETURN => 8,
-            Opcode::RETF => 10,
-            _ => 0,
+            Opcode::RETURN => Size::Eight,
+            Opcode::RETF => Size::Ten,
+            _ => Size::Zero,
         },
         Size::Duplicate => match opcode {
-            Opcode::MOVDDUP => 8,
-            _ => 16,
+            Opcode::MOVDDUP => Size::Eight,
+            _ => Size::Sixteen,
         },
         Size::Stream => match opcode {
-            Opcode::MOVNTSS => 4,
-            Opcode::MOVNTPS | Opcode::MOVNTPD | Opcode::MOVNTDQ => 16,
-            _ => 8,
+            Opcode::MOVNTSS => Size::Four,
+            Opcode::MOVNTPS | Opcode::MOVNTPD | Opcode::MOVNTDQ => Size::Sixteen,
+            _ => Size::Eight,
         },
         Size::Scalar => match opcode {
-            Opcode::CMPSS | Opcode::ROUNDSS => 4,
-            Opcode::CMPSD | Opcode::ROUNDSD => 8,
-            _ => 16,
+            Opcode::CMPSS | Opcode::ROUNDSS => Size::Four,
+            Opcode::CMPSD | Opcode::ROUNDSD => Size::Eight,
+            _ => Size::Sixteen,
         },
         Size::Extract => match opcode {
-            Opcode::PEXTRB => 1,
-            Opcode::PEXTRW => 2,
-            Opcode::EXTRACTPS => 4,
-            _ => 0,
+            Opcode::PEXTRB => Size::One,
+            Opcode::PEXTRW => Size::Two,
+            Opcode::EXTRACTPS => Size::Four,
+            _ => Size::Zero,
         },
         Size::Insert => match opcode {
-            Opcode::PINSRB => 1,
-            Opcode::INSERTPS => 4,
-            _ => 0,
+            Opcode::PINSRB => Size::One,
+            Opcode::INSERTPS => Size::Four,
+            _ => Size::Zero,
         },
         Size::Unpack => match opcode {
-            Opcode::PUNPCKLBW | Opcode::PUNPCKLWD | Opcode::PUNPCKLDQ => 4,
-            _ => 8,
+            Opcode::PUNPCKLBW | Opcode::PUNPCKLWD | Opcode::PUNPCKLDQ => Size::Four,
+            _ => Size::Eight,
         },
         Size::Extend => match opcode {
-            Opcode::PMOVSXBQ | Opcode::PMOVZXBQ => 2,
+            Opcode::PMOVSXBQ | Opcode::PMOVZXBQ => Size::Two,
             Opcode::PMOVSXBD
             | Opcode::PMOVZXBD
             | Opcode::PMOVSXWQ
             | Opcode::PMOVZXWQ
             | Opcode::UCOMISS
             | Opcode::COMISS
-            | Opcode::CVTSS2SD => 4,
-            _ => 8,
+            | Opcode::CVTSS2SD => Size::Four,
+            _ => Size::Eight,
         },
-        _ => 0,
+        size => size,
     }
 }

@@ -4,13 +4,13 @@
 //! Written by tools/tables.py from specs/Rows.antt.
 //! The proof doesn't rest on that script: a wrong entry is refused.
 use crate::heads::{After, Head, head};
-use crate::plans::OperandEncoding::{
-    At, ConstantU8, Destination, I8, I32, Implied, Ip, Iv, Ivq, Offset, Source, Sr, U8, U16, X16, Z,
-};
-use crate::plans::{OperandEncoding, PointerSlot, RegisterSlot};
 use crate::rows::Names::{Name, Own};
 use crate::rows::When::{Always, Opcode, Register0, RexR, RexW, With66, With67};
 use crate::rows::{Reg, Rm, TemplateRow};
+use crate::vocabulary::OperandEncoding::{
+    At, ConstantU8, Destination, I8, I32, Implied, Ip, Iv, Ivq, Offset, Source, Sr, U8, U16, X16, Z,
+};
+use crate::vocabulary::{OperandEncoding, PointerSlot, RegisterSlot};
 use x86_fields::Width::V;
 use x86_regs::RegisterClass;
 

@@ -1,14 +1,14 @@
 //! Operand templates: which part of an encoding each operand of a row is.
 
-ghost use Rattle.std.specs.Prelude.{◌≡◌, ℕ};
+ghost use Rattle.std.specs.Prelude.{◌≡◌, ℕ, true};
 ghost use Rattle.x86_fields.specs.Sizes.{size_prefixes};
-ghost use Rattle.x86_operands.specs.Vocabulary.{Prefixes, is_memory};
-ghost use Rattle.x86_operands.specs.Encodings.{resolved, size_bytes};
-ghost use Rattle.x86_operands.specs.Templates.{size_at};
+ghost use Rattle.x86_operands.specs.Vocabulary.{Prefixes};
+ghost use Rattle.x86_operands.specs.Encodings.{bytes_under, resolved};
+ghost use Rattle.x86_operands.specs.Templates.{has_address, has_free_sizes, size_at, with_sizes};
 
 use crate::order::Order;
-use crate::plans::OperandEncoding;
 use crate::sizing::Size;
+use crate::vocabulary::OperandEncoding;
 use x86_fields::{Prefixes, SizePrefixes, Width};
 use x86_opcodes::Opcode;
 
@@ -27,9 +27,9 @@ pub struct Template {
     pub last: OperandEncoding,
     /// Another one, whose bytes come after those of the last one.
     pub extra: OperandEncoding,
-    /// The memory size, in the memory form.
+    /// The memory size, where the operand of rm is memory.
     pub in_memory: Size,
-    /// The same in the register form, and without ModRM.
+    /// The same in the register form, and where no operand is of rm.
     pub in_register: Size,
 }
 
@@ -60,17 +60,31 @@ impl OperandEncoding {
 }
 
 impl Template {
-    /// The memory size in bytes, in the memory form or in the register form; `opcode` is the one of the opcode map.
+    /// The template with the sizes that it has for an operation. `opcode` is the one of the opcode map.
     #[inline(always)]
-    pub fn mem_size(&self, in_memory: bool, opcode: Opcode, sizes: SizePrefixes) -> u8
-        ensures { (modrm : ℕ) (p : Prefixes) → in_memory ≡ is_memory modrm
-            → sizes ≡ size_prefixes p → result ≡ size_bytes (size_at self.now modrm) opcode p }
+    pub fn with_sizes(&self, opcode: Opcode) -> Template
+        ensures sizes { result ≡ with_sizes self.now opcode }
+        ensures free { has_free_sizes result ≡ true }
     {
-        let size = if in_memory {
+        Template {
+            in_memory: self.in_memory.of_operation(opcode),
+            in_register: self.in_register.of_operation(opcode),
+            ..*self
+        }
+    }
+
+    /// The memory size in bytes, where SIB and displacement are there and where they aren't.
+    #[inline(always)]
+    pub fn mem_size(&self, addressed: bool, sizes: SizePrefixes) -> u8
+        requires { has_free_sizes self.now ≡ true }
+        ensures { (modrm : ℕ) (p : Prefixes) → addressed ≡ has_address self.now.order.rm modrm
+            → sizes ≡ size_prefixes p → result ≡ bytes_under (size_at self.now modrm) p }
+    {
+        let size = if addressed {
             self.in_memory
         } else {
             self.in_register
         };
-        size.bytes(opcode, sizes)
+        size.bytes(sizes)
     }
 }

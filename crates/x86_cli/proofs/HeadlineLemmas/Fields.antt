@@ -13,7 +13,7 @@ use Rattle.x86_decode.specs.Head.{Rows, seen_by}
 use Rattle.x86_fields.specs.Run.{reading_of}
 use Rattle.x86_groups.specs.Groups.{record_of}
 use Rattle.x86_operands.specs.Asks.{modrm_of}
-use Rattle.x86_decode.specs.Addresses.{names_modrm, plan_within, writes_modrm}
+use Rattle.x86_decode.specs.Addresses.{names_modrm, instance_within, writes_modrm}
 use Rattle.x86_decode.specs.Answer.{answer_of, count_of}
 use Rattle.x86_decode.specs.Grammar as was
 use Rattle.x86_decode.specs.Grammar.{IsAnswer, IsRefusal}
@@ -27,7 +27,7 @@ use Rattle.x86_layout.specs.Tightening.Registers.{is_ip_relative}
 use Rattle.x86_layout.specs.Tightening.Tighten.{HasOperandForm, IsRelative, IsShortest}
 use Rattle.x86_cli.specs.Headline.{AreRelatives, BeginsWith, HasRaw, IsByteString, Sentence, Settles}
 use Rattle.x86_cli.specs.Sentences.{Encodes}
-use Rattle.x86_cli.proofs.HeadlineLemmas.Sentences.{back, error_back, error_to, halves, modrm_is, parts_in, plan_is, to, whole_in}
+use Rattle.x86_cli.proofs.HeadlineLemmas.Sentences.{back, error_back, error_to, halves, modrm_is, parts_in, instance_is, to, whole_in}
 use Rattle.x86_cli.proofs.ListingLemmas.Grammar.{GrammarLaws, some_cut, first_cut}
 
 abbrev pub R : Rows
@@ -140,9 +140,9 @@ pub head_same : {p q : List ℕ} {a b : ℕ} → p ≡ a ∷ [] → q ≡ b ∷ 
 head_same {p} {q} {a} {b} e f g = cc
 
 module _ (strict : Bool) (s : List ℕ) (i : Instruction) (f : Encodes R strict true s i) where
-  -- the plan at its row
-  pub named : (k : ℕ) (raw : Raw) → HasRaw R strict f k raw → names_modrm (plan_within R strict s f.reading (whole_in R strict true s i f)) k ≡ true
-  named k raw has = subst (λ q. names_modrm q k ≡ true) (plan_is R strict true s i f) has.1
+  -- the instance at its row
+  pub named : (k : ℕ) (raw : Raw) → HasRaw R strict f k raw → names_modrm (instance_within R strict s f.reading (whole_in R strict true s i f)) k ≡ true
+  named k raw has = subst (λ q. names_modrm q k ≡ true) (instance_is R strict true s i f) has.1
 
   pub operand_form : (k : ℕ) (raw : Raw) → HasRaw R strict f k raw → is_ip_relative raw ≡ false →
       HasOperandForm strict s f.reading (whole_in R strict true s i f) false
@@ -150,7 +150,7 @@ module _ (strict : Bool) (s : List ℕ) (i : Instruction) (f : Encodes R strict 
     operand = record {
       raw = raw;
       read = has.0;
-      written = (and_parts (writes_modrm (plan_within R strict s f.reading (whole_in R strict true s i f))) _ (named k raw has)).0;
+      written = (and_parts (writes_modrm (instance_within R strict s f.reading (whole_in R strict true s i f))) _ (named k raw has)).0;
     };
     form = differs;
   }

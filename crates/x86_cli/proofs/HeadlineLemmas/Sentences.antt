@@ -10,11 +10,11 @@ use Rattle.x86_fields.specs.Parts.{PartLists}
 use Rattle.x86_fields.specs.Pieces.{option_bytes}
 use Rattle.x86_fields.specs.Run.{reading_of}
 use Rattle.x86_operands.specs.declared.places.Places.{Places}
-use Rattle.x86_operands.specs.declared.plans.Fault.{Fault}
+use Rattle.x86_operands.specs.declared.vocabulary.Fault.{Fault}
 use Rattle.x86_operands.specs.declared.reader.Reading.{Reading}
 use Rattle.x86_operands.specs.Asks.{immediates_width, modrm_of}
 use Rattle.x86_operands.specs.Pieces.{SpellsMemory, RefusesRow, modrm_width, suffix_width, opcode_by, reading_from}
-use Rattle.x86_operands.specs.Plans.{RowRecord, is_refusal}
+use Rattle.x86_operands.specs.Records.{RowRecord, is_refusal, order_of}
 use Rattle.x86_operands.specs.Templates.{has_address}
 use Rattle.x86_operands.specs.declared.order.Position.{Position}
 use Rattle.x86_groups.specs.Groups.{record_of}
@@ -97,12 +97,12 @@ module _ (rows : Rows) (strict : Bool) where
           modrm_length = w.row_spelled.modrm_length;
           modrm = m;
           has_modrm = refl;
-          plan = r.plan m;
-          has_plan = refl;
+          instance = r.instance m;
+          has_instance = refl;
           accepted = t.accepted;
           memory = t.pieces.memory;
-          address_spelled = subst (λ a. SpellsMemory (r.plan m).order.rm p m a t.pieces.memory) (sym halves) t.pieces.address_spelled;
-          sib_length = sib_long (r.plan m).order.rm p m t.pieces.address t.pieces.memory
+          address_spelled = subst (λ a. SpellsMemory (order_of (r.instance m)).rm p m a t.pieces.memory) (sym halves) t.pieces.address_spelled;
+          sib_length = sib_long (order_of (r.instance m)).rm p m t.pieces.address t.pieces.memory
               (address_is strict w.row p w.row_spelled.modrm t.accepted) t.pieces.address_spelled;
           immediate_length = t.pieces.immediates_length;
           suffix_length = t.pieces.suffix_length;
@@ -121,9 +121,9 @@ module _ (rows : Rows) (strict : Bool) where
     pub modrm_is : f.modrm ≡ modrm_of (record_of strict f.row (seen_by f.opcode_map f.byte (reading_of f.parts.prefixes))).modrm f.parts.modrm
     modrm_is = f.has_modrm ∙ ap (λ r. modrm_of r.modrm f.parts.modrm) record_is
 
-    pub plan_is : f.plan ≡ (let r = record_of strict f.row (seen_by f.opcode_map f.byte (reading_of f.parts.prefixes)) in
-        r.plan (modrm_of r.modrm f.parts.modrm))
-    plan_is = f.has_plan ∙ ap (λ m. f.made.plan m) f.has_modrm ∙ ap (λ r. r.plan (modrm_of r.modrm f.parts.modrm)) record_is
+    pub instance_is : f.instance ≡ (let r = record_of strict f.row (seen_by f.opcode_map f.byte (reading_of f.parts.prefixes)) in
+        r.instance (modrm_of r.modrm f.parts.modrm))
+    instance_is = f.has_instance ∙ ap (λ m. f.made.instance m) f.has_modrm ∙ ap (λ r. r.instance (modrm_of r.modrm f.parts.modrm)) record_is
 
     -- the encoding that one record has
     abbrev pub whole_in : Whole rows strict s f.reading
@@ -156,18 +156,18 @@ module _ (rows : Rows) (strict : Bool) where
                 immediates = f.parts.immediate;
                 suffix = f.parts.suffix;
                 spelled = refl;
-                address_spelled = subst (λ q. SpellsMemory q.order.rm p m address f.memory) plan_is
-                    (subst (λ p. SpellsMemory f.plan.order.rm p m address f.memory) f.sees
-                    (subst (λ m. SpellsMemory f.plan.order.rm f.seen m address f.memory) modrm_is f.address_spelled));
-                immediates_length = subst (λ q. length f.parts.immediate ≡ immediates_width q) plan_is f.immediate_length;
-                suffix_length = subst (λ q. length f.parts.suffix ≡ suffix_width q.verdict) plan_is f.suffix_length;
+                address_spelled = subst (λ q. SpellsMemory (order_of q).rm p m address f.memory) instance_is
+                    (subst (λ p. SpellsMemory (order_of f.instance).rm p m address f.memory) f.sees
+                    (subst (λ m. SpellsMemory (order_of f.instance).rm f.seen m address f.memory) modrm_is f.address_spelled));
+                immediates_length = subst (λ q. length f.parts.immediate ≡ immediates_width q) instance_is f.immediate_length;
+                suffix_length = subst (λ q. length f.parts.suffix ≡ suffix_width q.verdict) instance_is f.suffix_length;
               };
               opcode = f.operation;
-              named = subst (λ q. opcode_by q.verdict q.opcode f.parts.suffix ≡ Some f.operation) plan_is f.named;
-              accepted = subst (λ q. is_refusal q.verdict ≡ false) plan_is f.accepted;
-              yields = subst (λ q. f.reading ≡ reading_from q p m f.operation f.memory f.parts.immediate) plan_is
-                  (subst (λ p. f.reading ≡ reading_from f.plan p m f.operation f.memory f.parts.immediate) f.sees
-                  (subst (λ m. f.reading ≡ reading_from f.plan f.seen m f.operation f.memory f.parts.immediate) modrm_is f.reads));
+              named = subst (λ q. opcode_by q.verdict q.opcode f.parts.suffix ≡ Some f.operation) instance_is f.named;
+              accepted = subst (λ q. is_refusal q.verdict ≡ false) instance_is f.accepted;
+              yields = subst (λ q. f.reading ≡ reading_from q p m f.operation f.memory f.parts.immediate) instance_is
+                  (subst (λ p. f.reading ≡ reading_from f.instance p m f.operation f.memory f.parts.immediate) f.sees
+                  (subst (λ m. f.reading ≡ reading_from f.instance f.seen m f.operation f.memory f.parts.immediate) modrm_is f.reads));
             };
           };
         }

@@ -3,7 +3,6 @@ use Rattle.std.proofs.Common.{◌≡◌, ℕ, ◌↔◌, ◌≤◌, nat_le, Bool
 use Rattle.std.proofs.Common.{Result, Ok, Err, IsOk, IfOk, refl, sym, ap, subst, ◌∙◌, arith, append-nil}
 use Rattle.std.proofs.lemmas.Bool.Decides.{nat_tests}
 use Rattle.x86_arch.specs.Reader.{State}
-use Rattle.x86_fields.specs.declared.errors.DecodeError.{DecodeError}
 use Rattle.x86_fields.specs.declared.prefixes.Prefixes.{Prefixes}
 use Rattle.x86_fields.specs.Run.{reading_of}
 use Rattle.x86_fields.specs.Parts.{HasFieldLengths}
@@ -11,16 +10,16 @@ use Rattle.x86_forms.specs.declared.Map.{Map}
 use Rattle.x86_forms.specs.declared.TableRow.{TableRow}
 use Rattle.x86_forms.specs.Words.{rows_of, packed}
 use Rattle.x86_operands.specs.declared.reader.Reading.{Reading}
-use Rattle.x86_operands.specs.Plans.{RowRecord}
+use Rattle.x86_operands.specs.Records.{RowRecord}
 use Rattle.x86_operands.specs.Pieces.{SpellsRow}
-use Rattle.x86_operands.specs.PlanSteps.{record_step}
+use Rattle.x86_operands.specs.RowSteps.{record_step}
 use Rattle.x86_operands.proofs.RecordLemmas.{takes_row}
 use Rattle.x86_decode.specs.declared.instructions.Instruction.{Instruction}
 use Rattle.x86_decode.specs.Head.{column_of, escape_bytes, is_opcode, seen_by}
 use Rattle.x86_fields.specs.Pieces.{option_bytes}
 use Rattle.x86_groups.specs.Groups.{record_of}
 use Rattle.x86_groups.proofs.AddressLemmas.{address_is}
-use Rattle.x86_decode.specs.Grammar.{allows_lock, places_of, IsAccepted, IsAnswer}
+use Rattle.x86_decode.specs.Grammar.{allows_lock, places_of, IsAccepted}
 use Rattle.x86_decode.specs.Instruction.{instruction_of}
 use Rattle.x86_decode.specs.Answer.{answer_of, count_of}
 use Rattle.x86_layout.specs.declared.parts.fields.Fields as fields
@@ -34,7 +33,7 @@ use Rattle.x86_layout.specs.Parts.Permitted.{map_named, entry_by, entry_at, entr
 use Rattle.x86_layout.specs.Parts.Permitted.{has_row_parts, tail_of, answer_allows_lock, has_lawful_lock, is_short, unless, failing_at}
 use Rattle.x86_layout.specs.Parts.Permitted.{first_failing, IsPermitted, ArePartsOfSentence}
 use Rattle.x86_layout.proofs.PartLemmas.Part.{cut_is}
-use Rattle.x86_layout.proofs.PartLemmas.OfBytes.{parts_are, parts_once, joined_is, lengths_of, there_in}
+use Rattle.x86_layout.proofs.PartLemmas.OfBytes.{Only, parts_are, parts_once, joined_is, lengths_of, there_in}
 use Rattle.x86_layout.proofs.PartLemmas.Spell.{spelled, HoldsFields, passes, row_parts}
 
 -- ---- the first that fails
@@ -128,10 +127,6 @@ emitted strict f h =
     let x = holds strict f (entry_of f) h in
     let n = names f x.0 (map_named f.escape.items) refl x.1 in
     emitted_by strict f x.0 n (subst (Holds strict f) n.is x.2)
-
-abbrev pub Only : Bool → Type 0
-Only strict = (xs : List ℕ) (r : Result Instruction DecodeError) (n : ℕ) → IsAnswer (rows_of packed) strict xs r n →
-    (r ≡ answer_of strict xs) × (n ≡ count_of strict xs)
 
 -- What emit wrote is accepted, whatever follows it, and its parts are the fields.
 pub split_again : (strict : Bool) (f : fields.Fields) (rest : List ℕ) → Only strict → IsPermitted strict f → (i : Instruction)

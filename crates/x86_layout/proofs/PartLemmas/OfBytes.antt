@@ -1,8 +1,9 @@
 -- The parts of the encoding at the beginning of bytes: the pieces of any whole encoding there, and their lengths.
 use Rattle.std.proofs.Common.{◌≡◌, ℕ, Bool, true, false, if◌then◌else◌, List, [], ◌∷◌, ◌++◌, length, slice_index, Option, Some, None, is_some}
-use Rattle.std.proofs.Common.{refl, sym, ap, ◌∙◌, append_assoc, arith, take, Ok, subst, ◌≤◌, length-append}
+use Rattle.std.proofs.Common.{refl, sym, ap, ◌∙◌, append_assoc, arith, take, Result, Ok, subst, ◌≤◌, length-append}
 use Rattle.std.specs.List.{prefix_len}
 use Rattle.std.proofs.lemmas.Bool.{cond_both}
+use Rattle.x86_fields.specs.declared.errors.DecodeError.{DecodeError}
 use Rattle.x86_fields.specs.declared.prefixes.Prefixes.{Prefixes}
 use Rattle.x86_fields.specs.declared.raw.Raw.{Raw}
 use Rattle.x86_fields.specs.Run.{is_prefix, reading_of}
@@ -11,7 +12,7 @@ use Rattle.x86_fields.specs.Raw.{displacement_width}
 use Rattle.x86_fields.specs.Pieces.{option_bytes, first_byte}
 use Rattle.x86_operands.specs.declared.asks.Ask.{Ask}
 use Rattle.x86_operands.specs.declared.reader.Reading.{Reading}
-use Rattle.x86_operands.specs.Plans.{RowRecord}
+use Rattle.x86_operands.specs.Records.{RowRecord, order_of}
 use Rattle.x86_operands.specs.Asks.{modrm_of, used_modrm, ask_of, immediates_width}
 use Rattle.x86_operands.specs.Pieces.{SpellsMemory, SpellsRow}
 use Rattle.x86_operands.specs.Templates.{has_address}
@@ -20,14 +21,14 @@ use Rattle.x86_operands.specs.declared.order.Position.TheVariants.{First}
 use Rattle.x86_decode.specs.Head.{escape_bytes, seen_by}
 use Rattle.x86_fields.specs.Parts.{PartLists, HasFieldLengths}
 use Rattle.x86_layout.specs.Parts.Heads.{one_if}
-use Rattle.x86_layout.specs.Parts.Split.{Encoding, record_in, sib_width, HasParts, joined}
+use Rattle.x86_layout.specs.Parts.Split.{Encoding, record_in, sib_width, HasParts, IsFirstSentence, joined}
 use Rattle.x86_layout.specs.Parts.OfBytes.{ask_by, ask_after_run, displacement_length_by, run_in, after_run, map_in, opcode_in, tail_in}
 use Rattle.x86_layout.specs.Parts.OfBytes.{ask_in, modrm_in, sib_in, displacement_in, immediate_in, suffix_in, parts_of}
 use Rattle.x86_layout.proofs.PartLemmas.Part.{cut_is, halves, run_length_is, map_is, as_it_is, read_as, modrm_count, sib_count}
 use Rattle.x86_layout.proofs.PartLemmas.Part.{immediate_count, suffix_count, immediates_long}
 use Rattle.x86_forms.specs.Words.{rows_of, packed}
 use Rattle.x86_decode.specs.declared.instructions.Instruction.{Instruction}
-use Rattle.x86_decode.specs.Grammar.{IsAnswer, IsSentence}
+use Rattle.x86_decode.specs.Grammar.{IsAccepted, IsAnswer, IsSentence}
 use Rattle.x86_decode.specs.Answer.{answer_of, count_of}
 use Rattle.x86_forms.specs.declared.TableRow.{TableRow}
 use Rattle.x86_forms.specs.Groups.{is_group}
@@ -95,13 +96,13 @@ module _ {r : RowRecord} {p : Prefixes} {tail : List ℕ} {reading : Reading} (a
 
   -- the address is there in the memory form
   abbrev pub IsThere : Type 0
-  IsThere = has_address (r.plan m).order.rm m ≡ is_memory m
+  IsThere = has_address (order_of (r.instance m)).rm m ≡ is_memory m
 
   -- SIB as long as it says tells how long the displacement is
   pub displacement_long : IsThere → (sib disp : List ℕ) → sib ++ disp ≡ a.tail_spelled.pieces.address → length sib ≡ sib_width m →
       length disp ≡ (if is_memory m then displacement_width m (first_byte sib) else 0)
   displacement_long there sib disp e h =
-      let x = address_parts (r.plan m).order.rm p m _ _ there a.tail_spelled.pieces.address_spelled in
+      let x = address_parts (order_of (r.instance m)).rm p m _ _ there a.tail_spelled.pieces.address_spelled in
       let same = halves sib disp x.sib x.disp (e ∙ x.spelled) (h ∙ sym x.sib_long) in
       cc (same.0, same.1, x.disp_long)
 
@@ -128,7 +129,7 @@ module _ {r : RowRecord} {p : Prefixes} {tail : List ℕ} {reading : Reading} (a
     has_tail there =
         let more : List ℕ = a.tail ++ rest in
         let s = a.tail_spelled.pieces in
-        let x = address_parts (r.plan m).order.rm p m _ _ there s.address_spelled in
+        let x = address_parts (order_of (r.instance m)).rm p m _ _ there s.address_spelled in
         let last : List ℕ = s.immediates ++ (s.suffix ++ rest) in
         let modrm = cut_is a.modrm more begins (modrm_count a more begins k) in
         let spelled : more ≡ x.sib ++ (x.disp ++ last) = ap (λ l. l ++ rest) s.spelled
@@ -212,40 +213,37 @@ parts_once {a = a} {b = b} h k =
 
 -- ---- the sentence that accepted bytes begin with
 
--- The bytes are accepted, and begin with this sentence.
-pub record IsFirstSentence (strict : Bool) (bytes encoding : List ℕ) (instruction : Instruction) : Type 0 where
-  pub accepted : answer_of strict bytes ≡ Ok instruction
-  pub rest : List ℕ
-  pub begins : bytes ≡ encoding ++ rest
-  pub taken : encoding ≡ take instruction.length bytes
-  pub long : length encoding ≡ instruction.length
-  pub counted : instruction.length ≡ count_of strict bytes
-  pub is : IsSentence (rows_of packed) strict encoding instruction
+abbrev pub Only : Bool → Type 0
+Only strict = (xs : List ℕ) (r : Result Instruction DecodeError) (n : ℕ) → IsAnswer (rows_of packed) strict xs r n →
+    (r ≡ answer_of strict xs) × (n ≡ count_of strict xs)
 
 -- As many bytes as the instruction has are that sentence.
-pub beginning_of : (strict : Bool) (bytes : List ℕ) {encoding : List ℕ} {instruction : Instruction} {n : ℕ} →
+pub beginning_of : (strict : Bool) (bytes : List ℕ) {encoding : List ℕ} {instruction : Instruction} {n : ℕ} → Only strict →
     answer_of strict bytes ≡ Ok instruction → IsAnswer (rows_of packed) strict bytes (answer_of strict bytes) (count_of strict bytes) →
-    ((i : Instruction) → answer_of strict bytes ≡ Ok i → i.length ≡ count_of strict bytes) → n ≡ instruction.length →
-    encoding ≡ take n bytes → IsFirstSentence strict bytes encoding instruction
-beginning_of strict bytes {instruction = i} value answer counts long beginning =
-    let accepted = subst (λ r. IsAnswer (rows_of packed) strict bytes r (count_of strict bytes)) value answer in
-    let counted = counts i value in
-    let same = beginning ∙ (cut_is accepted.sentence accepted.rest accepted.begins (long ∙ counted ∙ sym accepted.long)).0 in
+    instruction.length ≡ count_of strict bytes → n ≡ instruction.length → encoding ≡ take n bytes → IsFirstSentence strict bytes encoding instruction
+beginning_of strict bytes {encoding = encoding} {instruction = i} only value answer counted long beginning =
+    let first = subst (λ r. IsAnswer (rows_of packed) strict bytes r (count_of strict bytes)) value answer in
+    let same : encoding ≡ first.sentence = beginning ∙ (cut_is first.sentence first.rest first.begins (long ∙ counted ∙ sym first.long)).0 in
+    let begins : bytes ≡ encoding ++ first.rest = cc (first.begins, same) in
+    let all : length encoding ≡ count_of strict bytes = cc (same, first.long) in
     record {
       accepted = value;
-      rest = accepted.rest;
-      begins = cc (accepted.begins, same);
+      is = subst (λ l. IsSentence (rows_of packed) strict l i) (sym same) first.is;
+      rest = first.rest;
+      begins = begins;
       taken = cc (beginning, long);
-      long = cc (same, accepted.long, counted);
-      counted = counted;
-      is = subst (λ l. IsSentence (rows_of packed) strict l i) (sym same) accepted.is;
+      long = cc (all, counted);
+      alone = λ s other a is e.
+          let accepted : IsAccepted (rows_of packed) strict bytes a (length s) = record { sentence = s; rest = other; begins = e; long = refl; is = is } in
+          let unique = only bytes (Ok a) (length s) accepted in
+          ((halves s other encoding first.rest (sym e ∙ begins) (unique.1 ∙ sym all)).0, cc (unique.0, value));
     }
 
 -- ---- the lengths of parts
 
-immediate_small : (strict : Bool) (row : TableRow) (p : Prefixes) (m : ℕ) → immediates_width ((record_of strict row p).plan m) ≤ 8
+immediate_small : (strict : Bool) (row : TableRow) (p : Prefixes) (m : ℕ) → immediates_width ((record_of strict row p).instance m) ≤ 8
 immediate_small strict row p m =
-    cond_both (is_group row.form) (group_record strict row p) (form_record row p) (λ r. immediates_width (r.plan m) ≤ 8)
+    cond_both (is_group row.form) (group_record strict row p) (form_record row p) (λ r. immediates_width (r.instance m) ≤ 8)
     (λ _. group_narrow strict row p m) (λ _. plain_narrow row p m)
 
 displacement_small : (m : ℕ) (sib : Option ℕ) (n : ℕ) → n ≡ (if is_memory m then displacement_width m sib else 0) → n ≤ 4

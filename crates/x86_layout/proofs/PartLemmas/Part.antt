@@ -1,6 +1,5 @@
 -- Where the parts of an encoding are.
-use Rattle.std.proofs.Common.{◌≡◌, ℕ, ◌≤◌, ◌==◌, ◌&&◌, Bool, true, if◌then◌else◌, List, [], ◌∷◌, ◌++◌, length, take, drop, slice_index}
-use Rattle.std.proofs.Common.{Option, Some, None, refl, ap, arith, length-append}
+use Rattle.std.proofs.Common.{◌≡◌, ℕ, ◌≤◌, ◌==◌, ◌&&◌, Bool, true, List, [], ◌∷◌, ◌++◌, length, take, drop, slice_index, Option, refl, arith}
 use Rattle.std.specs.List.{list_all, prefix_len, take_while}
 use Rattle.std.proofs.lemmas.List.Sums.{take_while-cons}
 use Rattle.std.proofs.Math.Seq.{take-append_seam, drop-append_seam}
@@ -11,9 +10,9 @@ use Rattle.x86_fields.specs.ModRM.{rm_field, is_memory}
 use Rattle.x86_fields.specs.Pieces.{option_bytes}
 use Rattle.x86_fields.specs.declared.prefixes.Prefixes.{Prefixes}
 use Rattle.x86_forms.specs.declared.Map.{Map}
-use Rattle.x86_operands.specs.declared.plans.Verdict.{Verdict}
-use Rattle.x86_operands.specs.declared.plans.ModrmUse.{ModrmUse}
-use Rattle.x86_operands.specs.Plans.{RowRecord}
+use Rattle.x86_operands.specs.declared.vocabulary.Verdict.{Verdict}
+use Rattle.x86_operands.specs.declared.vocabulary.ModrmUse.{ModrmUse}
+use Rattle.x86_operands.specs.Records.{RowRecord, order_of}
 use Rattle.x86_operands.specs.Asks.{modrm_of, immediates_width, uses_modrm, uses_suffix, used_modrm, ask_of}
 use Rattle.x86_operands.specs.Pieces.{modrm_width, suffix_width, SpellsRow}
 use Rattle.x86_decode.specs.Head.{is_run, escape_bytes, is_opcode}
@@ -22,7 +21,6 @@ use Rattle.x86_operands.specs.declared.reader.Reading.{Reading}
 use Rattle.x86_operands.specs.Templates.{has_address}
 use Rattle.x86_layout.specs.Parts.Heads.{map_of, one_if, has_sib}
 use Rattle.x86_layout.specs.Parts.Split.{sib_width}
-use Rattle.x86_layout.specs.Parts.Permitted.{map_named}
 
 -- ---- lengths
 
@@ -60,11 +58,6 @@ pub map_is : (m : Map) (b : ℕ) (tail : List ℕ) → is_opcode m b ≡ true �
     map_of (slice_index (escape_bytes m ++ b ∷ tail) 0) (slice_index (escape_bytes m ++ b ∷ tail) 1) ≡ m
 map_is m b tail h = grind (arith, nat_tests)
 
--- the escape of a map is the map by the first two bytes, where these have its length
-pub map_named_is : (l : List ℕ) → map_named l ≡
-    (let m : Map = map_of (slice_index l 0) (slice_index l 1) in if length (escape_bytes m) == length l then Some m else None)
-map_named_is l = grind (arith, nat_tests)
-
 -- ---- what a row has
 
 used_is : (u : ModrmUse) (modrm more tail : List ℕ) → tail ≡ modrm ++ more → length modrm ≡ modrm_width u → modrm_of u modrm ≡ used_modrm u (slice_index tail 0)
@@ -90,7 +83,7 @@ module _ {r : RowRecord} {p : Prefixes} {tail : List ℕ} {reading : Reading} (a
   abbrev m : ℕ
   m = modrm_of r.modrm a.modrm
 
-  pub immediates_long : length a.tail_spelled.pieces.immediates ≡ immediates_width (r.plan m)
+  pub immediates_long : length a.tail_spelled.pieces.immediates ≡ immediates_width (r.instance m)
   immediates_long = a.tail_spelled.pieces.immediates_length
 
   -- further bytes come after the pieces of a row
@@ -103,7 +96,7 @@ module _ {r : RowRecord} {p : Prefixes} {tail : List ℕ} {reading : Reading} (a
       unfolding ask_of
       modrm_count = cc (k, use_width r.modrm, a.modrm_length)
 
-      pub sib_count : has_address (r.plan m).order.rm m ≡ is_memory m → one_if (has_sib ask (slice_index all 0)) ≡ sib_width m
+      pub sib_count : has_address (order_of (r.instance m)).rm m ≡ is_memory m → one_if (has_sib ask (slice_index all 0)) ≡ sib_width m
       unfolding ask_of
       sib_count there = cc (k, sib_present r.modrm (slice_index all 0), read_as, there)
 
@@ -113,4 +106,4 @@ module _ {r : RowRecord} {p : Prefixes} {tail : List ℕ} {reading : Reading} (a
 
       pub suffix_count : one_if ask.suffix ≡ length a.tail_spelled.pieces.suffix
       unfolding ask_of
-      suffix_count = cc (k, read_as, verdict_width (r.plan m).verdict, a.tail_spelled.pieces.suffix_length)
+      suffix_count = cc (k, read_as, verdict_width (r.instance m).verdict, a.tail_spelled.pieces.suffix_length)

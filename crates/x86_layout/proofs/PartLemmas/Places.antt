@@ -4,7 +4,7 @@ use Rattle.std.specs.Int.{from_bool}
 use Rattle.std.proofs.lemmas.Bool.Decides.{nat_tests}
 use Rattle.x86_forms.specs.Words.{rows_of, packed}
 use Rattle.x86_operands.specs.declared.places.Places.{Places}
-use Rattle.x86_operands.specs.declared.plans.Verdict.{Verdict}
+use Rattle.x86_operands.specs.declared.vocabulary.Verdict.{Verdict}
 use Rattle.x86_operands.specs.declared.reader.Reading.{Reading}
 use Rattle.x86_operands.specs.Pieces.{suffix_width}
 use Rattle.x86_decode.specs.Grammar.{places_of}
@@ -53,11 +53,14 @@ module _ {strict : Bool} {s : List ℕ} {reading : Reading} (w : Encoding strict
       × (drop (length bytes - n) bytes ≡ escape_bytes w.map)
   escape_cut e long = let all = ap length e in cut_is w.run (escape_bytes w.map) e (omega (arith, length-append {A = ℕ}, all, long))
 
+  pub suffix_long : {n : ℕ} → n ≡ from_bool places.has_suffix → n ≡ length w.row_spelled.tail_spelled.pieces.suffix
+  suffix_long n_is = n_is ∙ ap (λ p. from_bool p.has_suffix) are ∙ suffix_count _ _ w.row_spelled.tail_spelled.pieces.suffix_length
+
   pub suffix_cut : {bytes : List ℕ} {n : ℕ} → bytes ≡ last → n ≡ from_bool places.has_suffix →
       (take (length bytes - n) bytes ≡ w.row_spelled.tail_spelled.pieces.immediates)
       × (drop (length bytes - n) bytes ≡ w.row_spelled.tail_spelled.pieces.suffix)
   suffix_cut e n_is =
       let t = w.row_spelled.tail_spelled.pieces in
       let all = ap length e in
-      let long = n_is ∙ ap (λ p. from_bool p.has_suffix) are ∙ suffix_count _ (length t.suffix) t.suffix_length in
+      let long = suffix_long n_is in
       cut_is t.immediates t.suffix e (omega (arith, length-append {A = ℕ}, all, long))

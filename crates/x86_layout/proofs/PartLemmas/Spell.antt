@@ -1,5 +1,5 @@
 -- Fields that meet the conditions on their row spell what the row has, and the other way round.
-use Rattle.std.proofs.Common.{◌↔◌, ◌≡◌, ℕ, ◌==◌, ◌&&◌, ◌||◌, not, Bool, true, false, if◌then◌else◌, List, [], ◌∷◌, ◌++◌, length}
+use Rattle.std.proofs.Common.{◌↔◌, ◌≡◌, ℕ, ◌==◌, ◌&&◌, ◌||◌, not, Bool, true, false, if◌then◌else◌, List, [], ◌++◌, length}
 use Rattle.std.proofs.Common.{Option, Some, None, is_some, is_none, refl, sym, ap, subst, ◌∙◌, arith}
 use Rattle.std.proofs.lemmas.List.{nil_from_length}
 use Rattle.std.proofs.lemmas.Bool.Decides.{nat_tests}
@@ -8,13 +8,13 @@ use Rattle.x86_fields.specs.declared.raw.Raw.{Raw}
 use Rattle.x86_fields.specs.ModRM.{rm_field, is_memory}
 use Rattle.x86_fields.specs.Raw.{displacement_width, has_b, has_x}
 use Rattle.x86_fields.specs.Pieces.{option_bytes, signed_by}
-use Rattle.x86_operands.specs.declared.plans.Verdict.{Verdict}
-use Rattle.x86_operands.specs.declared.plans.Verdict.TheVariants.{Accepts, NamedBySuffix, Refuses}
+use Rattle.x86_operands.specs.declared.vocabulary.Verdict.{Verdict}
+use Rattle.x86_operands.specs.declared.vocabulary.Verdict.TheVariants.{Accepts, NamedBySuffix, Refuses}
 use Rattle.x86_operands.specs.declared.reader.Reading.{Reading}
-use Rattle.x86_operands.specs.Plans.{RowRecord, is_refusal}
+use Rattle.x86_operands.specs.Records.{RowRecord, is_refusal, order_of}
 use Rattle.x86_operands.specs.Asks.{modrm_of, uses_modrm, uses_suffix, immediates_width, record_at}
 use Rattle.x86_operands.specs.Pieces.{opcode_by, reading_from, SpellsMemory, SpellsRow}
-use Rattle.x86_operands.specs.PlanSteps.{suffix_opcode}
+use Rattle.x86_operands.specs.RowSteps.{suffix_opcode}
 use Rattle.x86_layout.specs.declared.parts.fields.Fields as fields
 use Rattle.x86_layout.specs.Parts.Heads.{one_if}
 use Rattle.x86_layout.specs.Parts.Split.{sib_width}
@@ -89,9 +89,9 @@ module _ (r : RowRecord) (p : Prefixes) (f : fields.Fields) where
   m = modrm_of r.modrm (option_bytes f.modrm)
 
   abbrev v : Verdict
-  v = (r.plan m).verdict
+  v = (r.instance m).verdict
 
-  pub spelled : (is_refusal v ≡ false → has_address (r.plan m).order.rm m ≡ is_memory m) →
+  pub spelled : (is_refusal v ≡ false → has_address (order_of (r.instance m)).rm m ≡ is_memory m) →
       passes_record (record_at r f.modrm) f ≡ true → has_row_parts (record_at r f.modrm) f ≡ true → SpellsFields r p f
   unfolding record_at
   spelled reads h k =
@@ -102,10 +102,10 @@ module _ (r : RowRecord) (p : Prefixes) (f : fields.Fields) where
       let there = reads accepted in
       let sib_n : one_if (is_some f.sib) ≡ sib_width m = counts.1 ∙ ap (λ t. one_if (t && rm_field m == 4)) there in
       let suffix_n : one_if (is_some f.suffix) ≡ one_if (uses_suffix v) = counts.4 in
-      let memory = spell_memory (r.plan m).order.rm p m f.sib f.displacement.items there sib_n counts.2 in
-      let named = named_by v (r.plan m).opcode f.suffix accepted passed.2 suffix_n in
+      let memory = spell_memory (order_of (r.instance m)).rm p m f.sib f.displacement.items there sib_n counts.2 in
+      let named = named_by v (r.instance m).opcode f.suffix accepted passed.2 suffix_n in
       record {
-        reading = reading_from (r.plan m) p m named.0 memory.0 f.immediate.items;
+        reading = reading_from (r.instance m) p m named.0 memory.0 f.immediate.items;
         row = record {
           modrm = option_bytes f.modrm;
           tail = (option_bytes f.sib ++ f.displacement.items) ++ (f.immediate.items ++ option_bytes f.suffix);
@@ -145,25 +145,26 @@ module _ {r : RowRecord} {p : Prefixes} {tail : List ℕ} {reading : Reading} (f
   same_at : modrm_of r.modrm a.modrm ≡ at
   same_at = ap (modrm_of r.modrm) (sym h.modrm)
 
-  accepts : is_refusal (r.plan at).verdict ≡ false
-  accepts = subst (λ n. is_refusal (r.plan n).verdict ≡ false) same_at a.tail_spelled.accepted
+  accepts : is_refusal (r.instance at).verdict ≡ false
+  accepts = subst (λ n. is_refusal (r.instance n).verdict ≡ false) same_at a.tail_spelled.accepted
 
-  names : opcode_by (r.plan at).verdict (r.plan at).opcode (option_bytes f.suffix) ≡ Some a.tail_spelled.opcode
+  names : opcode_by (r.instance at).verdict (r.instance at).opcode (option_bytes f.suffix) ≡ Some a.tail_spelled.opcode
   names = cc (same_at, h.suffix, a.tail_spelled.named)
 
   pub passes : passes_record (record_at r f.modrm) f ≡ true
   unfolding record_at
-  passes = cc (a.passed, accepts, names_suffix (r.plan at).verdict (r.plan at).opcode a.tail_spelled.opcode f.suffix names)
+  passes = cc (a.passed, accepts, names_suffix (r.instance at).verdict (r.instance at).opcode a.tail_spelled.opcode f.suffix names)
 
   pub row_parts : IsThere a → has_row_parts (record_at r f.modrm) f ≡ true
   unfolding record_at
   row_parts reads =
-      let there : has_address (r.plan at).order.rm at ≡ is_memory at = subst (λ n. has_address (r.plan n).order.rm n ≡ is_memory n) same_at reads in
+      let there : has_address (order_of (r.instance at)).rm at ≡ is_memory at =
+      subst (λ n. has_address (order_of (r.instance n)).rm n ≡ is_memory n) same_at reads in
       let modrm : one_if (is_some f.modrm) ≡ one_if (uses_modrm r.modrm) = cc (option_count f.modrm, h.modrm, a.modrm_length, use_width r.modrm) in
       let sib : one_if (is_some f.sib) ≡ sib_width at = cc (option_count f.sib, h.sib, same_at) in
       let displacement : length f.displacement.items ≡ displacement_length at f.sib =
       cc (displacement_long a reads (option_bytes f.sib) f.displacement.items h.address h.sib, first_of f.sib, same_at) in
-      let immediate : length f.immediate.items ≡ immediates_width (r.plan at) = cc (h.immediate, immediates_long a, same_at) in
-      let suffix : one_if (is_some f.suffix) ≡ one_if (uses_suffix (r.plan at).verdict) =
-      cc (option_count f.suffix, h.suffix, a.tail_spelled.pieces.suffix_length, verdict_width (r.plan (modrm_of r.modrm a.modrm)).verdict, same_at) in
+      let immediate : length f.immediate.items ≡ immediates_width (r.instance at) = cc (h.immediate, immediates_long a, same_at) in
+      let suffix : one_if (is_some f.suffix) ≡ one_if (uses_suffix (r.instance at).verdict) =
+      cc (option_count f.suffix, h.suffix, a.tail_spelled.pieces.suffix_length, verdict_width (r.instance (modrm_of r.modrm a.modrm)).verdict, same_at) in
       (tests_five _ _ _ _ _ _ _ _ _ _).1 (modrm, sib ∙ ap (λ t. one_if (t && rm_field at == 4)) (sym there), displacement, immediate, suffix)

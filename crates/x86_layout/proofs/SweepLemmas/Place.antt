@@ -1,9 +1,9 @@
 -- The cuts after a cut, where cuts begin and end, and the marks at their places.
 use Rattle.std.proofs.Common.{◌≡◌, ℕ, zero, suc, ◌+◌, ◌-◌, ◌<◌, ◌≤◌, Bool, List, [], ◌∷◌, length, drop, refl, ap, ◌∙◌, arith, ◌&&◌, not}
-use Rattle.std.proofs.Common.{nat_lt, false, inl, inr, Ok, subst, ◌==◌, ◌||◌, true, slice_index_or, slice_set}
+use Rattle.std.proofs.Common.{nat_le, nat_lt, false, inl, inr, Ok, subst, ◌==◌, ◌||◌, true, slice_index_or, slice_set}
 use Rattle.std.proofs.lemmas.List.{nil_from_length, get_or-set_same, get_or-set_other}
 use Rattle.x86_decode.specs.Answer.{answer_of}
-use Rattle.x86_layout.specs.Sweeps.Cuts.{cut_length, cut_at, cuts_skipping, cuts_from}
+use Rattle.x86_layout.specs.Sweeps.Cuts.{cut_length, cut_at, cuts_skipping, cuts_from, IsWithin}
 use Rattle.std.proofs.lemmas.List.Sums.{sum_by-cons}
 use Rattle.std.proofs.lemmas.List.Elements.{All-nil, All-cons}
 use Rattle.std.proofs.lemmas.Bool.Decides.{nat_tests}
@@ -11,8 +11,7 @@ use Rattle.std.specs.List.{list_any, sum_by, All}
 use Rattle.std.proofs.lemmas.Bool.{cases_lt}
 use Rattle.x86_decode.specs.declared.instructions.Instruction.{Instruction}
 use Rattle.x86_layout.specs.declared.sweeps.cuts.Cut.{Cut}
-use Rattle.x86_layout.specs.Sweeps.Marks.{begins_at, is_inside}
-use Rattle.x86_layout.specs.Sweeps.Lengths.{IsWithin}
+use Rattle.x86_layout.specs.Sweeps.Marks.{begins_at}
 
 -- ---- the cuts after a cut
 
@@ -46,6 +45,10 @@ module _ (strict : Bool) where
   count (suc k) place (x ∷ xs) = let h = count k (place + 1) xs in omega (arith, h)
 
 -- ---- where cuts begin and end
+
+-- the place is after the first byte of a cut, and at most at its last one
+abbrev pub is_inside : ℕ → Cut → Bool
+is_inside place c = nat_le (c.place + 1) place && nat_lt place (c.place + c.length)
 
 -- instructions have a length, which is at most that of the input
 abbrev pub Lengths : Bool → Type 0

@@ -17,8 +17,11 @@ use Rattle.x86_operands.specs.declared.order.Position.TheVariants.{First}
 use Rattle.x86_decode.proofs.ByteLemmas.{Bytes, bytes_after, memory_fits}
 use Rattle.x86_layout.specs.Tightening.Registers.{IsByteOption}
 use Rattle.x86_layout.specs.Tightening.Shortest.{address_length, IsOfBytes}
-use Rattle.x86_layout.specs.Tightening.Tighten.{bits_in, spelled_displacement, address_bytes}
+use Rattle.x86_layout.specs.Tightening.Tighten.{bits_in, spelled_displacement}
 use Rattle.x86_layout.proofs.PartLemmas.OfBytes.{option_count}
+
+abbrev pub address_bytes : Raw → List ℕ
+address_bytes raw = option_bytes raw.sib ++ spelled_displacement raw
 
 -- ---- the displacement that bytes spell fits its width
 

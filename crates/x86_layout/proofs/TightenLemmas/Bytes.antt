@@ -13,7 +13,8 @@ use Rattle.x86_decode.proofs.ByteLemmas.{Bytes, bytes_after, bytes_before}
 use Rattle.x86_layout.specs.Parts.Split.{Encoding}
 use Rattle.x86_layout.specs.Tightening.Registers.{IsByteOption}
 use Rattle.x86_layout.specs.Tightening.Shortest.{shortest, IsOfBytes}
-use Rattle.x86_layout.specs.Tightening.Tighten.{run_with, byte_with, spelled_displacement, address_bytes}
+use Rattle.x86_layout.specs.Tightening.Tighten.{run_with, byte_with, spelled_displacement}
+use Rattle.x86_layout.proofs.TightenLemmas.Address.{address_bytes}
 use Rattle.x86_layout.proofs.TightenLemmas.Relative.{Reads, Last, Bytes'}
 use Rattle.x86_layout.proofs.TightenLemmas.Shortest.{shortest_is_of_bytes}
 

@@ -1,5 +1,5 @@
--- The operands of a plan, read twice: at each place they are alike, where the parts of the plan are.
-use Rattle.std.proofs.Common.{◌≡◌, ℕ, zero, suc, List, [], ◌∷◌, take, drop, Option, None, slice_index_or, refl, sym, ap, ◌∙◌}
+-- The operands of an instance, read twice: at each place they are alike, where the parts of the instance are.
+use Rattle.std.proofs.Common.{◌≡◌, ℕ, zero, suc, List, [], ◌∷◌, take, drop, Option, None, slice_index_or, refl, ap}
 use Rattle.x86_fields.specs.declared.prefixes.Prefixes.{Prefixes}
 use Rattle.x86_fields.specs.declared.raw.Raw.{Raw}
 use Rattle.x86_operands.specs.declared.operand_list.Operands.{Operands}
@@ -11,8 +11,8 @@ use Rattle.x86_operands.specs.declared.order.Position.{Position}
 use Rattle.x86_operands.specs.declared.order.Position.TheVariants.{First, Second, Third, Fourth, Nowhere}
 use Rattle.x86_operands.specs.Asks.{part_width}
 use Rattle.x86_operands.specs.Pieces.{operand_from, operands_from}
-use Rattle.x86_operands.specs.PlanSteps.{known_operand, put_in, sized}
-use Rattle.x86_operands.specs.Plans.{Plan}
+use Rattle.x86_operands.specs.RowSteps.{known_operand, put_in}
+use Rattle.x86_operands.specs.Records.{Instance, order_of}
 
 abbrev Pair : Type 0
 Pair = Slot × Operand
@@ -46,19 +46,19 @@ module _ (R : Pair → Pair → Type 0) (none : R (slots.Nothing, operands.Nothi
   put_alike Nowhere x y r h = h
 
   -- the parts are alike, so the operands are
-  pub record PartsAlike (plan : Plan) (p q : Prefixes) (m n : ℕ) (old new : Option Raw) : Type 0 where
-    pub rm : R (known_operand plan.rm p m old) (known_operand plan.rm q n new)
-    pub reg : R (known_operand plan.reg p m None) (known_operand plan.reg q n None)
-    pub last : (bytes : List ℕ) → R (operand_from plan.last p m bytes) (operand_from plan.last q n bytes)
-    pub extra : (bytes : List ℕ) → R (operand_from plan.extra p m bytes) (operand_from plan.extra q n bytes)
+  pub record PartsAlike (instance : Instance) (p q : Prefixes) (m n : ℕ) (old new : Option Raw) : Type 0 where
+    pub rm : R (known_operand instance.rm p m old) (known_operand instance.rm q n new)
+    pub reg : R (known_operand instance.reg p m None) (known_operand instance.reg q n None)
+    pub last : (bytes : List ℕ) → R (operand_from instance.last p m bytes) (operand_from instance.last q n bytes)
+    pub extra : (bytes : List ℕ) → R (operand_from instance.extra p m bytes) (operand_from instance.extra q n bytes)
 
-  pub operands_alike : (plan : Plan) (p q : Prefixes) (m n : ℕ) (old new : Option Raw) (bytes : List ℕ) → PartsAlike plan p q m n old new →
-      Alike (operands_from plan p m old bytes) (operands_from plan q n new bytes)
-  operands_alike plan p q m n old new bytes h =
-      put_alike plan.order.extra _ _ (h.extra (drop (part_width plan.order.last plan.last) bytes))
-      (put_alike plan.order.last _ _ (h.last (take (part_width plan.order.last plan.last) bytes))
-      (put_alike plan.order.reg _ _ h.reg (put_alike plan.order.rm _ _ h.rm
-      (alike plan.order.count plan.size _ _ _ _ _ _ _ _ none none none none refl refl))))
+  pub operands_alike : (instance : Instance) (p q : Prefixes) (m n : ℕ) (old new : Option Raw) (bytes : List ℕ) → PartsAlike instance p q m n old new →
+      Alike (operands_from instance p m old bytes) (operands_from instance q n new bytes)
+  operands_alike instance p q m n old new bytes h =
+      put_alike (order_of instance).extra _ _ (h.extra (drop (part_width (order_of instance).last instance.last) bytes))
+      (put_alike (order_of instance).last _ _ (h.last (take (part_width (order_of instance).last instance.last) bytes))
+      (put_alike (order_of instance).reg _ _ h.reg (put_alike (order_of instance).rm _ _ h.rm
+      (alike (order_of instance).count instance.size _ _ _ _ _ _ _ _ none none none none refl refl))))
 
   pub each_alike : {l m : Operands} → Alike l m → (k : ℕ) → R (pair_read l k) (pair_read m k)
   each_alike (alike n s a b c d a' b' c' d' ra rb rc rd hl hm) zero = rw (hl, hm) ra

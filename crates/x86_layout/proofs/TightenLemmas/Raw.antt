@@ -1,14 +1,59 @@
 -- The registers of raw fields, their address form, how few bytes they may have, and what spelled raw fields are read as.
-use Rattle.std.proofs.Common.{◌≡◌, ℕ, zero, suc, ◌+◌, ◌^◌, ◌<◌, ◌≤◌, ◌&&◌, true, false, if◌then◌else◌, Option, Some, None, is_some, ℤ, refl, arith}
+use Rattle.std.proofs.Common.{◌≡◌, ◌≢◌, ◌==◌, ℕ, zero, suc, ◌+◌, ◌^◌, ◌<◌, ◌≤◌, ◌&&◌, true, false, if◌then◌else◌, Option, Some, None, is_some, ℤ, refl, arith}
 use Rattle.std.proofs.lemmas.Bool.Decides.{nat_tests}
 use Rattle.x86_fields.specs.declared.raw.Raw.{Raw}
 use Rattle.x86_fields.specs.ModRM.{scale_field, is_memory, reg_field, packed_byte}
-use Rattle.x86_fields.specs.Raw.{displacement_width, sib_fits, disp_fits}
+use Rattle.x86_fields.specs.Raw.{displacement_width, is_byte, sib_fits, disp_fits}
 use Rattle.x86_fields.specs.Address.{base_by, index_by, scale_by}
 use Rattle.x86_fields.specs.Linear.{adds_to}
-use Rattle.x86_layout.specs.Tightening.Registers.{is_ip_by, number_of, scale_named, times, part_weight, IsBelow16, IsIndex, IsByteOption}
-use Rattle.x86_layout.specs.Tightening.Shortest.{bytes_by, width_with_base, mod_of, fourth_bit, scale_bits, field_or, rm_alone, sib_by, rm_by}
+use Rattle.x86_layout.specs.Tightening.Registers.{is_ip_by, number_of, scale_named, IsByteOption}
+use Rattle.x86_layout.specs.Tightening.Shortest.{field_bits, omits_displacement, mod_of, fourth_bit, scale_bits, field_or, rm_alone, sib_by, rm_by}
+use Rattle.x86_layout.specs.declared.tightening.registers.AddressRegisters.{AddressRegisters}
 use Rattle.x86_layout.specs.declared.tightening.registers.Scale.{Scale}
+use Rattle.x86_layout.specs.declared.tightening.registers.Scale.TheVariants.{One, Two, Four, Eight}
+
+-- ---- how often a register counts
+
+-- what the index counts
+abbrev pub times : Scale → ℕ
+times One = 1
+times Two = 2
+times Four = 4
+times Eight = 8
+
+-- how often a register counts that is here
+abbrev pub part_weight : Option ℕ → ℕ → ℕ → ℕ
+part_weight None n r = 0
+part_weight (Some b) n r = if b == r then n else 0
+
+-- how often a register counts in an address
+abbrev pub weight : AddressRegisters → ℕ → ℕ
+weight at r = part_weight at.base 1 r + part_weight at.index (times at.scale) r
+
+-- a number from 0 to 15
+abbrev pub IsBelow16 : Option ℕ → Type 0
+IsBelow16 None = Unit {0}
+IsBelow16 (Some n) = n < 16
+
+-- a number from 0 to 15, and not 4: rsp can't be an index
+abbrev pub IsIndex : Option ℕ → Type 0
+IsIndex None = Unit {0}
+IsIndex (Some n) = (n < 16) × (n ≢ 4)
+
+-- ---- how many bytes
+
+-- of the displacement, beside a base
+abbrev pub width_with_base : ℤ → ℕ → ℕ
+width_with_base disp base = if omits_displacement disp base then 0 else (if is_byte disp then 1 else 4)
+
+-- of SIB and displacement, with this base and index
+abbrev pub bytes_by : ℤ → Option ℕ → Option ℕ → ℕ
+bytes_by disp None index = 5
+bytes_by disp (Some b) None = (if field_bits b == 4 then 1 else 0) + width_with_base disp b
+bytes_by disp (Some b) (Some i) = 1 + width_with_base disp b
+
+abbrev pub bytes_at : ℤ → AddressRegisters → ℕ
+bytes_at disp at = bytes_by disp at.base at.index
 
 -- ---- no fields that fit have fewer bytes
 

@@ -9,10 +9,10 @@ use Rattle.x86_fields.specs.Raw.{has_b, has_x}
 use Rattle.x86_fields.specs.Run.{reading_of}
 use Rattle.x86_fields.specs.Linear.{raw_form, IsSameAddress}
 use Rattle.x86_forms.specs.Words.{rows_of, packed}
-use Rattle.x86_operands.specs.declared.plans.ModrmUse.{ModrmUse}
-use Rattle.x86_operands.specs.declared.plans.ModrmUse.TheVariants.{EitherForm}
+use Rattle.x86_operands.specs.declared.vocabulary.ModrmUse.{ModrmUse}
+use Rattle.x86_operands.specs.declared.vocabulary.ModrmUse.TheVariants.{EitherForm}
 use Rattle.x86_operands.specs.declared.reader.Reading.{Reading}
-use Rattle.x86_operands.specs.Plans.{RowRecord}
+use Rattle.x86_operands.specs.Records.{RowRecord, order_of}
 use Rattle.x86_operands.specs.Pieces.{SpellsMemory, modrm_width}
 use Rattle.x86_operands.specs.declared.order.Position.TheVariants.{First}
 use Rattle.x86_layout.proofs.PartLemmas.OfBytes.{as_first, there_in}
@@ -27,10 +27,10 @@ use Rattle.x86_decode.proofs.ByteLemmas.{Bytes, bytes_of, bytes_after, bytes_bef
 use Rattle.x86_layout.specs.Parts.Split.{Encoding, record_in}
 use Rattle.x86_layout.specs.Tightening.Registers.{is_ip_relative}
 use Rattle.x86_layout.specs.Tightening.Shortest.{shortest, address_length, IsOfBytes}
-use Rattle.x86_layout.specs.Tightening.Tighten.{bits_in, run_with, address_bytes, IsRelative, IsLeast, IsShortest}
+use Rattle.x86_layout.specs.Tightening.Tighten.{bits_in, run_with, IsRelative, IsLeast, IsShortest}
 use Rattle.x86_layout.proofs.TightenLemmas.Rex.{run_stays, run_cleared, length_stays, seen_with, column_stays}
-use Rattle.x86_layout.proofs.TightenLemmas.PlanAlike.{same_record}
-use Rattle.x86_layout.proofs.TightenLemmas.Address.{of_bytes, address_long, respells, address_bytes_long, bits_with}
+use Rattle.x86_layout.proofs.TightenLemmas.InstanceAlike.{same_record}
+use Rattle.x86_layout.proofs.TightenLemmas.Address.{address_bytes, of_bytes, address_long, respells, address_bytes_long, bits_with}
 use Rattle.x86_layout.proofs.TightenLemmas.Shortest.{shortest_is_of_bytes, shortest_has_the_address, shortest_keeps_reg, shortest_keeps_67}
 use Rattle.x86_layout.proofs.TightenLemmas.Shortest.{shortest_keeps_bits, none_is_shorter}
 use Rattle.x86_layout.proofs.TightenLemmas.Respell.{Rerowed, rerowed}
@@ -67,7 +67,7 @@ module _ {strict : Bool} {s : List ℕ} {a : Reading} (v : Encoding strict s a) 
 
   module _ {raw : Raw} (read : Reads raw) where
     pub spells : SpellsMemory First (Seen) (Byte) (Address) (Some raw)
-    spells = as_first ((Row).plan (Byte)).order.rm (Seen) (Byte) (Address) (Some raw) (there_in v)
+    spells = as_first (order_of ((Row).instance (Byte))).rm (Seen) (Byte) (Address) (Some raw) (there_in v)
         (rw read at v.row_spelled.tail_spelled.pieces.address_spelled)
 
     pub fields : (Row).modrm ≡ EitherForm
@@ -178,6 +178,9 @@ module _ {strict : Bool} {s : List ℕ} {a : Reading} (v : Encoding strict s a) 
     pub long : length t ≡ Long v (Other)
     long = omega (arith, length-append {A = ℕ}, ap length spelled, length_stays (Other).rex_x (Other).rex_b v.run, address_bytes_long (Other))
 
+    pub fits : length s ≤ 15 → is_ip_relative raw ≡ false → length t ≤ 15
+    fits short ip = let fewer = no_longer ip in let old = length_is v raw read in let new = long in omega (arith, short, fewer, old, new)
+
     least : is_ip_relative raw ≡ false → IsLeast strict s a v t
     least ip = λ u c is bytes rel.
         let w = is.whole in
@@ -203,9 +206,4 @@ module _ {strict : Bool} {s : List ℕ} {a : Reading} (v : Encoding strict s a) 
 
     pub shortest_relative : allows_lock a ≡ true → length s ≤ 15 → is_ip_relative raw ≡ false → IsShortest strict s a v t
     unfolding sentence
-    shortest_relative lock short ip =
-        let fewer = no_longer ip in
-        let old = length_is v raw read in
-        let new = long in
-        let fits : length t ≤ 15 = omega (arith, short, fewer, old, new) in
-        record { answer = answer; sentence = sentence lock fits; relative = relative ip; least = least ip }
+    shortest_relative lock short ip = record { answer = answer; sentence = sentence lock (fits short ip); relative = relative ip; least = least ip }

@@ -5,14 +5,14 @@ use Rattle.x86_fields.specs.declared.raw.Raw.{Raw}
 use Rattle.x86_fields.specs.Pieces.{SpellsRaw}
 use Rattle.x86_operands.specs.declared.operands.Slot.{Slot}
 use Rattle.x86_operands.specs.declared.operands.Operand.{Operand}
-use Rattle.x86_operands.specs.declared.plans.OperandEncoding.{OperandEncoding}
-use Rattle.x86_operands.specs.declared.plans.PrefixChange.{PrefixChange}
-use Rattle.x86_operands.specs.declared.plans.ModrmUse.TheVariants.{EitherForm}
+use Rattle.x86_operands.specs.declared.vocabulary.OperandEncoding.{OperandEncoding}
+use Rattle.x86_operands.specs.declared.vocabulary.PrefixChange.{PrefixChange}
+use Rattle.x86_operands.specs.declared.vocabulary.ModrmUse.TheVariants.{EitherForm}
 use Rattle.x86_operands.specs.declared.reader.Reading.{Reading}
 use Rattle.x86_operands.specs.Operands.{is_memory_slot, shape}
 use Rattle.x86_fields.specs.ModRM.{is_memory}
-use Rattle.x86_operands.specs.Plans.{Plan, RowRecord}
-use Rattle.x86_operands.specs.PlanSteps.{Immediate, changed, immediate_read, known_operand}
+use Rattle.x86_operands.specs.Records.{Instance, RowRecord, order_of}
+use Rattle.x86_operands.specs.RowSteps.{Immediate, changed, immediate_read, known_operand}
 use Rattle.x86_operands.specs.Pieces.{operand_from, operands_from, reading_from, SpellsTail, SpellsRow, modrm_width}
 use Rattle.x86_operands.specs.Templates.{somewhere}
 use Rattle.x86_operands.specs.declared.operand_list.Operands.{Operands}
@@ -46,10 +46,10 @@ module _ (p q : Prefixes) (m n : ℕ) (raw other : Raw) where
       by None = known_kind s
       by (Some j) = refl
 
-  same_kinds : (plan : Plan) (bytes : List ℕ) →
-      Alike IsSameKind refl (operands_from plan p m (Some raw) bytes) (operands_from plan q n (Some other) bytes)
-  same_kinds plan bytes = operands_alike IsSameKind refl plan p q m n (Some raw) (Some other) bytes
-      (record { rm = rm_kind plan.rm; reg = known_kind plan.reg; last = operand_kind plan.last; extra = operand_kind plan.extra })
+  same_kinds : (instance : Instance) (bytes : List ℕ) →
+      Alike IsSameKind refl (operands_from instance p m (Some raw) bytes) (operands_from instance q n (Some other) bytes)
+  same_kinds instance bytes = operands_alike IsSameKind refl instance p q m n (Some raw) (Some other) bytes
+      (record { rm = rm_kind instance.rm; reg = known_kind instance.reg; last = operand_kind instance.last; extra = operand_kind instance.extra })
 
   first_kind : {l k : Operands} → Alike IsSameKind refl l k → is_memory_slot (first_slot k.slots) ≡ is_memory_slot (first_slot l.slots)
   first_kind (alike c z a b d e a' b' d' e' ra rb rd re hl hk) = rw (hl, hk) ra
@@ -72,15 +72,15 @@ module _ (p q : Prefixes) (m n : ℕ) (raw other : Raw) where
     pub last : row.tail_spelled.pieces.suffix ≡ suffix
     pub lock : allows_lock again ≡ allows_lock reading
 
-  pub rerowed : (r : RowRecord) (plan : Plan) (tail address : List ℕ) (reading : Reading) (h : SpellsTail plan p m tail reading) →
+  pub rerowed : (r : RowRecord) (instance : Instance) (tail address : List ℕ) (reading : Reading) (h : SpellsTail instance p m tail reading) →
       p.lock ≡ q.lock → h.pieces.memory ≡ Some raw → is_memory n ≡ true → SpellsRaw q n address other → r.at_opcode ≡ None →
-      r.modrm ≡ EitherForm → r.plan n ≡ plan → Rerowed r address h.pieces.immediates h.pieces.suffix reading
-  rerowed r plan tail address reading h same read memory spells passed usage planned =
+      r.modrm ≡ EitherForm → r.instance n ≡ instance → Rerowed r address h.pieces.immediates h.pieces.suffix reading
+  rerowed r instance tail address reading h same read memory spells passed usage told =
       let s = h.pieces in
-      let there = still_there (somewhere plan.order.rm) (is_memory m) (is_memory n) (rw read at s.address_spelled).0 memory in
-      let again : Reading = reading_from plan q n h.opcode (Some other) s.immediates in
-      let lock : allows_lock again ≡ allows_lock (reading_from plan p m h.opcode (Some raw) s.immediates) =
-      cc (lock_of_change plan.change same, first_kind (same_kinds plan s.immediates)) in
+      let there = still_there (somewhere (order_of instance).rm) (is_memory m) (is_memory n) (rw read at s.address_spelled).0 memory in
+      let again : Reading = reading_from instance q n h.opcode (Some other) s.immediates in
+      let lock : allows_lock again ≡ allows_lock (reading_from instance p m h.opcode (Some raw) s.immediates) =
+      cc (lock_of_change instance.change same, first_kind (same_kinds instance s.immediates)) in
       record {
         again = again;
         row = record {
@@ -96,19 +96,19 @@ module _ (p q : Prefixes) (m n : ℕ) (raw other : Raw) where
               immediates = s.immediates;
               suffix = s.suffix;
               spelled = refl;
-              address_spelled = rw (usage, planned) (there, spells);
-              immediates_length = rw (usage, planned) s.immediates_length;
-              suffix_length = rw (usage, planned) s.suffix_length;
+              address_spelled = rw (usage, told) (there, spells);
+              immediates_length = rw (usage, told) s.immediates_length;
+              suffix_length = rw (usage, told) s.suffix_length;
             };
             opcode = h.opcode;
-            named = rw (usage, planned) h.named;
-            accepted = rw (usage, planned) h.accepted;
-            yields = rw (usage, planned) refl;
+            named = rw (usage, told) h.named;
+            accepted = rw (usage, told) h.accepted;
+            yields = rw (usage, told) refl;
           };
         };
         modrm = refl;
         memory = refl;
         immediate = refl;
         last = refl;
-        lock = lock ∙ ap (λ o. allows_lock (reading_from plan p m h.opcode o s.immediates)) (sym read) ∙ ap allows_lock (sym h.yields);
+        lock = lock ∙ ap (λ o. allows_lock (reading_from instance p m h.opcode o s.immediates)) (sym read) ∙ ap allows_lock (sym h.yields);
       }

@@ -1,32 +1,31 @@
 -- A relative is the same instruction but for its memory operand of ModRM, which has the same address.
-use Rattle.std.proofs.Common.{◌≡◌, ◌↔◌, ℕ, zero, suc, ◌≤◌, ◌<◌, ◌^◌, nat_lt, Bool, true, false, if◌then◌else◌, Option, Some, None, List, []}
-use Rattle.std.proofs.Common.{◌∷◌, length, map, slice_index_or, refl, sym, ap, ◌∙◌, arith, All, FitsSigned, w32, pow_mono, min}
+use Rattle.std.proofs.Common.{◌≡◌, ◌↔◌, ℕ, ◌≤◌, ◌<◌, ◌^◌, nat_lt, Bool, true, false, if◌then◌else◌, Option, Some, None, List}
+use Rattle.std.proofs.Common.{length, map, slice_index_or, refl, sym, ap, ◌∙◌, arith, All, FitsSigned, w32, pow_mono}
 use Rattle.std.proofs.lemmas.Bool.{and_parts}
 use Rattle.x86_regs.specs.declared.RegisterClass.{RegisterClass}
 use Rattle.x86_fields.specs.declared.prefixes.Prefixes.{Prefixes}
 use Rattle.x86_fields.specs.declared.raw.Raw.{Raw}
 use Rattle.x86_fields.specs.ModRM.{reg_field, scale_field}
+use Rattle.x86_fields.specs.Run.{reading_of}
 use Rattle.x86_fields.specs.Raw.{has_r}
 use Rattle.x86_fields.specs.Address.{scale_by}
 use Rattle.x86_fields.specs.Sizes.{class_of, register_of}
 use Rattle.x86_fields.specs.declared.sizes.Width.{Width}
 use Rattle.x86_fields.specs.Linear.{Linear, raw_form, value_at, IsSameAddress, IsReduced, IsRegFile, AgreeEverywhere}
 use Rattle.x86_forms.specs.Words.{rows_of, packed}
-use Rattle.x86_operands.specs.declared.operands.Slot.{Slot}
 use Rattle.x86_operands.specs.declared.operands.Slot.TheVariants as slots
-use Rattle.x86_operands.specs.declared.operands.Operand.{Operand}
 use Rattle.x86_operands.specs.declared.operands.Operand.TheVariants as operands
-use Rattle.x86_operands.specs.declared.plans.OperandEncoding.{OperandEncoding}
-use Rattle.x86_operands.specs.declared.plans.PrefixChange.{PrefixChange}
+use Rattle.x86_operands.specs.declared.vocabulary.OperandEncoding.{OperandEncoding}
+use Rattle.x86_operands.specs.declared.vocabulary.PrefixChange.{PrefixChange}
 use Rattle.x86_operands.specs.declared.reader.Reading.{Reading}
 use Rattle.x86_operands.specs.Operands.{shape, operand_address}
-use Rattle.x86_operands.specs.Plans.{Plan, reg_number}
+use Rattle.x86_operands.specs.Records.{Instance, reg_number, order_of}
 use Rattle.x86_operands.proofs.ColumnLemmas.{has_memory_alone, rm_free_encoding}
-use Rattle.x86_operands.specs.PlanSteps.{Immediate, changed, immediate_read, known_operand, pointer_class}
-use Rattle.x86_operands.specs.Pieces.{is_modrm_encoding, operand_from, operands_from, reading_from, writes_modrm, SpellsTail}
+use Rattle.x86_operands.specs.RowSteps.{Immediate, changed, immediate_read, known_operand, pointer_class}
+use Rattle.x86_operands.specs.Pieces.{is_modrm_encoding, operand_from, reading_from, writes_modrm, SpellsTail}
 use Rattle.x86_operands.specs.Templates.{somewhere}
 use Rattle.x86_operands.specs.declared.operand_list.Operands.{Operands}
-use Rattle.x86_operands.specs.declared.plans.OperandEncoding.TheVariants.{E, Emm}
+use Rattle.x86_operands.specs.declared.vocabulary.OperandEncoding.TheVariants.{E, Emm}
 use Rattle.std.specs.Int.{from_le_bytes}
 use Rattle.std.specs.Option.{option_map_or}
 use Rattle.x86_operands.specs.Asks.{first_or}
@@ -40,11 +39,11 @@ use Rattle.x86_layout.specs.Tightening.Registers.{IsByteOption}
 use Rattle.x86_layout.specs.Tightening.Shortest.{IsOfBytes}
 use Rattle.x86_layout.specs.Tightening.Tighten.{IsRelative}
 use Rattle.x86_layout.specs.Tightening.Same.{cleared, placed_at, address_at, IsSameOrShape, unchanged, shapes, IsSameButInMemory}
-use Rattle.x86_layout.proofs.TightenLemmas.Rex.{seen_with, column_stays}
-use Rattle.x86_layout.proofs.TightenLemmas.PlanAlike.{row_has_memory, same_record}
+use Rattle.x86_layout.proofs.TightenLemmas.Rex.{seen_67, seen_with, column_stays}
+use Rattle.x86_layout.proofs.TightenLemmas.Tighten.{answer_67}
+use Rattle.x86_layout.proofs.TightenLemmas.InstanceAlike.{row_has_memory, same_record}
 use Rattle.x86_layout.proofs.TightenLemmas.Operands.{Alike, PartsAlike, each_alike, operands_alike}
 use Rattle.x86_layout.proofs.TightenLemmas.Relative.{Reads, Row, Seen, Byte, spells, fields, byte, raw_of_bytes}
-use Rattle.x86_layout.proofs.PartLemmas.Part.{halves}
 
 -- ---- what clearing X and B leaves
 
@@ -88,16 +87,17 @@ module _ (from to : Raw) where
     rm_alike Emm h = shapes refl refl
     rm_alike s h = absurd cc
 
-    parts_alike : (plan : Plan) → has_memory_alone plan ≡ true → PartsAlike (IsSameOrShape from to) (unchanged refl) plan p q m n (Some from) (Some to)
-    parts_alike plan h =
-        let parts = and_parts (writes_modrm plan) _ h in
-        let rest = and_parts (rm_free_encoding plan.last) _ parts.1 in
-        let others = and_parts (rm_free_encoding plan.extra) (rm_free_encoding plan.reg) rest.1 in
+    parts_alike : (instance : Instance) → has_memory_alone instance ≡ true →
+        PartsAlike (IsSameOrShape from to) (unchanged refl) instance p q m n (Some from) (Some to)
+    parts_alike instance h =
+        let parts = and_parts (writes_modrm instance) _ h in
+        let rest = and_parts (rm_free_encoding instance.last) _ parts.1 in
+        let others = and_parts (rm_free_encoding instance.extra) (rm_free_encoding instance.reg) rest.1 in
         record {
-          rm = rm_alike plan.rm (and_parts (somewhere plan.order.rm) (is_modrm_encoding plan.rm) parts.0).1;
-          reg = known_alike plan.reg others.1;
-          last = λ bytes. operand_alike plan.last bytes rest.0;
-          extra = λ bytes. operand_alike plan.extra bytes others.0;
+          rm = rm_alike instance.rm (and_parts (somewhere (order_of instance).rm) (is_modrm_encoding instance.rm) parts.0).1;
+          reg = known_alike instance.reg others.1;
+          last = λ bytes. operand_alike instance.last bytes rest.0;
+          extra = λ bytes. operand_alike instance.extra bytes others.0;
         }
 
   -- ---- the instruction
@@ -115,22 +115,22 @@ module _ (from to : Raw) where
 
   module _ (address : IsSameAddress (raw_form to) (raw_form from)) (p q : Prefixes) (alike : cleared q ≡ cleared p)
       (m n : ℕ) (register : reg_field n ≡ reg_field m) where
-    tails : {plan other : Plan} {tail end : List ℕ} {a b : Reading} (h : SpellsTail plan p m tail a) (g : SpellsTail other q n end b)
-        (i j : Places) (k l : ℕ) → other ≡ plan → has_memory_alone plan ≡ true →
+    tails : {instance other : Instance} {tail end : List ℕ} {a b : Reading} (h : SpellsTail instance p m tail a) (g : SpellsTail other q n end b)
+        (i j : Places) (k l : ℕ) → other ≡ instance → has_memory_alone instance ≡ true →
         h.pieces.memory ≡ Some from → g.pieces.memory ≡ Some to → g.pieces.immediates ≡ h.pieces.immediates →
         g.pieces.suffix ≡ h.pieces.suffix → IsSameButInMemory from to (instruction_of a i k) (instruction_of b j l)
-    tails {plan = plan} {a = a} {b = b} h g i j k l planned alone old new immediates suffix =
+    tails {instance = instance} {a = a} {b = b} h g i j k l told alone old new immediates suffix =
         let bytes = h.pieces.immediates in
-        let first : a ≡ reading_from plan p m h.opcode (Some from) bytes = h.yields ∙ ap (λ o. reading_from plan p m h.opcode o bytes) old in
-        let second : b ≡ reading_from plan q n h.opcode (Some to) bytes = cc (g.yields, planned, g.named, suffix, h.named, new, immediates) in
-        let all = operands_alike (IsSameOrShape from to) (unchanged refl) plan p q m n (Some from) (Some to) bytes
-        (parts_alike p q m n alike register plan alone) in
+        let first : a ≡ reading_from instance p m h.opcode (Some from) bytes = h.yields ∙ ap (λ o. reading_from instance p m h.opcode o bytes) old in
+        let second : b ≡ reading_from instance q n h.opcode (Some to) bytes = cc (g.yields, told, g.named, suffix, h.named, new, immediates) in
+        let all = operands_alike (IsSameOrShape from to) (unchanged refl) instance p q m n (Some from) (Some to) bytes
+        (parts_alike p q m n alike register instance alone) in
         rw (first, second) (record {
           opcode = refl;
-          prefixes = same_mark p q alike plan.change;
+          prefixes = same_mark p q alike instance.change;
           count = refl;
           mem_size = refl;
-          operands = λ x. at_place (nat_lt x plan.order.count) all x;
+          operands = λ x. at_place (nat_lt x (order_of instance).count) all x;
           address = address;
         })
 
@@ -150,8 +150,8 @@ module _ {strict : Bool} {s : List ℕ} {a : Reading} {v : Encoding strict s a} 
   register_is : reg_field (Byte w) ≡ reg_field (Byte v)
   register_is = ap (first_or 0) (sym (ap (map reg_field) (byte w rel.address.new)) ∙ rel.parts.register ∙ ap (map reg_field) (byte v rel.address.old))
 
-  plan_is : (Row w).plan (Byte w) ≡ (Row v).plan (Byte v)
-  plan_is =
+  instance_is : (Row w).instance (Byte w) ≡ (Row v).instance (Byte v)
+  instance_is =
       let mm = (spells v rel.address.old).0 in
       let nm = (spells w rel.address.new).0 in
       let new = (same_record strict w.row (Seen w) false false (Byte w) (Byte w) nm nm refl).2 (fields w rel.address.new) in
@@ -160,7 +160,7 @@ module _ {strict : Bool} {s : List ℕ} {a : Reading} {v : Encoding strict s a} 
 
   same_instruction : (i j : Places) (k l : ℕ) → IsSameButInMemory rel.address.from rel.address.to (instruction_of a i k) (instruction_of b j l)
   same_instruction i j k l = tails rel.address.from rel.address.to rel.address.same (Seen v) (Seen w) seen_is (Byte v)
-      (Byte w) register_is v.row_spelled.tail_spelled w.row_spelled.tail_spelled i j k l plan_is
+      (Byte w) register_is v.row_spelled.tail_spelled w.row_spelled.tail_spelled i j k l instance_is
       (row_has_memory strict v.row (Seen v) (Byte v) (spells v rel.address.old).0 (fields v rel.address.old) v.row_spelled.tail_spelled.accepted)
       rel.address.old rel.address.new
       rel.parts.immediate rel.parts.suffix
@@ -189,26 +189,25 @@ scale_small : (sib : Option ℕ) → IsByteOption sib → scale_by sib ≤ 8
 scale_small None h = omega arith
 scale_small (Some sib) h = pow_mono {i = scale_field sib} {j = 3} (omega (arith, h))
 
-mark_67 : (change : PrefixChange) (p : Prefixes) → (changed change p).address_size ≡ p.address_size
-mark_67 change p = grind arith
-
 -- 67 of the raw fields is that of the instruction
 same_67 : {strict : Bool} {s : List ℕ} {a : Instruction} (is : IsSentence (rows_of packed) strict s a) {raw : Raw} → Reads is.whole raw →
     a.prefixes.address_size ≡ raw.address_size
-same_67 is read =
-    ap (λ i. i.prefixes.address_size) is.yields
-    ∙ ap (λ r. r.prefixes.address_size) is.whole.row_spelled.tail_spelled.yields
-    ∙ mark_67 _ (Seen is.whole)
+same_67 is read = answer_67 is ∙ sym (seen_67 is.whole.map is.whole.opcode (reading_of is.whole.run))
     ∙ sym (ap (λ r. r.address_size) (spells is.whole read).1.fields)
 
 -- The operand that ModRM spells as memory is the shape of its raw fields, so it has their address.
+at_shape : HaveTheAddress → (i : Instruction) (k : ℕ) (raw : Raw) → IsOfBytes raw → i.prefixes.address_size ≡ raw.address_size →
+    operand_at i k ≡ (shape raw).1 → (regs : List ℕ) (next : ℕ) → address_at i k regs next ≡ Some (value_at (raw_form raw) regs next)
+at_shape have i k raw h short shaped regs next =
+    ap (λ t. operand_address t (operand_at i k) regs next) short
+    ∙ ap (λ o. operand_address raw.address_size o regs next) shaped
+    ∙ have raw regs next h.disp
+
 pub operand_has_address : HaveTheAddress → (strict : Bool) (s : List ℕ) (a : Instruction) (is : IsSentence (rows_of packed) strict s a)
     (raw : Raw) (k : ℕ) → Reads is.whole raw → operand_at a k ≡ (shape raw).1 → All (λ byte. byte < 256) s → (regs : List ℕ) (next : ℕ) →
     address_at a k regs next ≡ Some (value_at (raw_form raw) regs next)
 operand_has_address have strict s a is raw k read shaped bytes regs next =
-    ap (λ t. operand_address t (operand_at a k) regs next) (same_67 is read)
-    ∙ ap (λ o. operand_address raw.address_size o regs next) shaped
-    ∙ have raw regs next (raw_of_bytes is.whole raw read (bytes_of s bytes)).disp
+    at_shape have a k raw (raw_of_bytes is.whole raw read (bytes_of s bytes)) (same_67 is read) shaped regs next
 
 module _ (have : HaveTheAddress) (reduced : AreReduced) (values : AreTheirValues) (from to : Raw) (from_bytes : IsOfBytes from)
     (to_bytes : IsOfBytes to) (regs : List ℕ) (next : ℕ) (file : IsRegFile regs) (small : next < 2 ^ 64) where
@@ -218,19 +217,17 @@ module _ (have : HaveTheAddress) (reduced : AreReduced) (values : AreTheirValues
   same_value : IsSameAddress (raw_form to) (raw_form from) → value_at (raw_form to) regs next ≡ value_at (raw_form from) regs next
   same_value h = (values (raw_form to) (raw_form from) h.modulus (reduced_of to to_bytes) (reduced_of from from_bytes)).0 h regs next file small
 
-  at_shape : (i : Instruction) (k : ℕ) (raw : Raw) → IsOfBytes raw → i.prefixes.address_size ≡ raw.address_size →
-      placed_at i k ≡ shape raw → address_at i k regs next ≡ Some (value_at (raw_form raw) regs next)
-  at_shape i k raw h short shaped =
-      ap (λ t. operand_address t (operand_at i k) regs next) short
-      ∙ ap (λ x. operand_address raw.address_size x.1 regs next) shaped
-      ∙ have raw regs next h.disp
-
   module _ (a b : Instruction) (k : ℕ) (h : IsSameButInMemory from to a b) (old : a.prefixes.address_size ≡ from.address_size)
       (new : b.prefixes.address_size ≡ to.address_size) where
     same_place : IsSameOrShape from to (placed_at a k) (placed_at b k) → address_at b k regs next ≡ address_at a k regs next
     same_place (unchanged e) = ap (λ p. operand_address p.address_size (operand_at b k) regs next) h.prefixes
         ∙ ap (λ x. operand_address a.prefixes.address_size x.1 regs next) e
-    same_place (shapes e f) = cc (at_shape b k to to_bytes new f, same_value h.address, at_shape a k from from_bytes old e)
+    same_place (shapes e f) =
+        cc (
+          at_shape have b k to to_bytes new (ap (λ x. x.1) f) regs next,
+          same_value h.address,
+          at_shape have a k from from_bytes old (ap (λ x. x.1) e) regs next,
+        )
 
 pub relative_has_addresses : HaveTheAddress → AreReduced → AreTheirValues →
     (strict : Bool) (s : List ℕ) (a : Instruction) (is : IsSentence (rows_of packed) strict s a) (t : List ℕ) (b : Instruction)

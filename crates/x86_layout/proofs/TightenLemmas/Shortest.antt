@@ -4,14 +4,14 @@ use Rattle.std.proofs.Common.{FitsSigned, w32, w64, to_z-of_z}
 use Rattle.std.proofs.lemmas.Bool.Decides.{nat_tests}
 use Rattle.x86_layout.specs.declared.tightening.registers.Scale.{Scale}
 use Rattle.x86_layout.specs.declared.tightening.registers.Scale.TheVariants.{One}
-use Rattle.x86_layout.specs.Tightening.Registers.{times, part_weight, IsBelow16, IsIndex, is_ip_relative, registers_of, weight, IsByteOption}
-use Rattle.x86_layout.specs.Tightening.Shortest.{index_alone, base_and_index, arranged, width_with_base, bytes_by, bytes_at}
-use Rattle.x86_layout.specs.Tightening.Shortest.{shortest_registers, address_length, fourth_bit, scale_bits, field_or, rm_alone, rm_by}
-use Rattle.x86_layout.specs.Tightening.Shortest.{sib_by, spelled, shortest, IsOfBytes}
+use Rattle.x86_layout.specs.Tightening.Registers.{is_ip_relative, registers_of, IsByteOption}
+use Rattle.x86_layout.specs.Tightening.Shortest.{arranged, shortest_registers, address_length, fourth_bit, scale_bits, field_or, rm_alone, rm_by, sib_by}
+use Rattle.x86_layout.specs.Tightening.Shortest.{spelled, shortest, IsOfBytes}
 use Rattle.x86_fields.specs.declared.raw.Raw.{Raw}
 use Rattle.x86_fields.specs.ModRM.{reg_field, packed_byte}
 use Rattle.x86_fields.specs.Linear.{constant_by, modulus_by, raw_form, IsSameAddress}
 use Rattle.x86_layout.specs.declared.tightening.registers.AddressRegisters.{AddressRegisters}
+use Rattle.x86_layout.proofs.TightenLemmas.Raw.{times, part_weight, weight, IsBelow16, IsIndex, width_with_base, bytes_by, bytes_at}
 use Rattle.x86_layout.proofs.TightenLemmas.Raw.{middle_is, middle_small, rm_small, spelled_length, spelled_fits, spelled_base}
 use Rattle.x86_layout.proofs.TightenLemmas.Raw.{spelled_index, spelled_scale, least, base_number, index_number, base_counts, index_counts}
 
@@ -43,7 +43,7 @@ one_base d r b' None s' hr hb hi e = let f = e b' hb in grind (arith, nat_tests)
 one_base d r b' (Some i') s' hr hb hi e = let some = some_times s' in let f = e b' hb in let g = e i' hi.0 in grind (arith, nat_tests)
 
 one_index : (d : ℤ) (r b' : ℕ) (i' : Option ℕ) (s s' : Scale) → r < 16 → b' < 16 → IsIndex i' →
-    ((k : ℕ) → k < 16 → 0 + part_weight (Some r) (times s) k ≡ Weigh (Some b') i' s' k) → bytes_at d (index_alone r s) ≤ bytes_by d (Some b') i'
+    ((k : ℕ) → k < 16 → 0 + part_weight (Some r) (times s) k ≡ Weigh (Some b') i' s' k) → bytes_at d (arranged d None (Some r) s) ≤ bytes_by d (Some b') i'
 one_index d r b' i' One s' hr hb hi e = one_base d r b' i' s' hr hb hi (λ k h. let f = e k h in omega (arith, f))
 one_index d r b' None s s' hr hb hi e = let some = some_times s in let f = e b' hb in grind (arith, nat_tests)
 one_index d r b' (Some i') s s' hr hb hi e =
@@ -53,7 +53,7 @@ one_index d r b' (Some i') s s' hr hb hi e =
     grind (arith, nat_tests)
 
 -- two registers
-by_base : (d : ℤ) (b i : ℕ) (s : Scale) (b' : ℕ) → (b ≡ b') ⊎ ((i ≡ b') × (s ≡ One)) → bytes_at d (base_and_index d b i s) ≤ 1 + width_with_base d b'
+by_base : (d : ℤ) (b i : ℕ) (s : Scale) (b' : ℕ) → (b ≡ b') ⊎ ((i ≡ b') × (s ≡ One)) → bytes_at d (arranged d (Some b) (Some i) s) ≤ 1 + width_with_base d b'
 by_base d b i s b' e = grind arith
 
 pub fewest : (d : ℤ) (b i : Option ℕ) (s : Scale) (b' i' : Option ℕ) (s' : Scale) → IsBelow16 b → IsIndex i → IsBelow16 b' → IsIndex i' →

@@ -1,46 +1,49 @@
 -- What is known of raw fields from the parts of an encoding, and how long a shortest relative is.
 use Rattle.x86_operands.specs.Operands.{is_memory_slot, shape}
-use Rattle.x86_operands.specs.Pieces.{is_modrm_encoding, names_modrm, writes_modrm, SpellsMemory}
-use Rattle.x86_operands.specs.Plans.{Plan}
+use Rattle.x86_operands.specs.Pieces.{is_modrm_encoding, names_modrm, writes_modrm, SpellsMemory, modrm_width}
+use Rattle.x86_operands.specs.Records.{Instance, order_of}
 use Rattle.x86_operands.specs.declared.order.Position.{Position}
 use Rattle.x86_forms.specs.Words.{rows_of, packed}
-use Rattle.x86_decode.specs.Addresses.{plan_within}
+use Rattle.x86_decode.specs.Addresses.{instance_within}
 use Rattle.x86_decode.specs.Grammar.{IsSentence}
 use Rattle.x86_decode.specs.Instruction.{slot_at}
 use Rattle.x86_layout.proofs.TightenLemmas.Respell.{is_shape}
-use Rattle.std.proofs.Common.{zero, suc, ◌<◌, ◌∷◌, ◌≡◌, ℕ, ◌≤◌, ◌==◌, ◌&&◌, Bool, true, false, if◌then◌else◌, Option, Some, List, length}
-use Rattle.std.proofs.Common.{refl, sym, ap, ◌∙◌, arith, length-append, ◌+◌, ◌-◌, not, [], append-nil}
+use Rattle.std.proofs.Common.{◌<◌, ◌∷◌, ◌≡◌, ℕ, ◌==◌, ◌&&◌, Bool, true, false, if◌then◌else◌, Option, Some, List, length}
+use Rattle.std.proofs.Common.{refl, sym, ap, ◌∙◌, arith, ◌+◌, ◌-◌, not, [], append-nil}
 use Rattle.x86_fields.specs.declared.prefixes.Prefixes.{Prefixes}
 use Rattle.x86_fields.specs.declared.raw.Raw.{Raw}
 use Rattle.x86_fields.specs.ModRM.{rm_field, is_memory}
 use Rattle.x86_fields.specs.Run.{reading_of}
 use Rattle.x86_fields.specs.Pieces.{option_bytes}
 use Rattle.x86_operands.specs.declared.reader.Reading.{Reading}
-use Rattle.x86_operands.specs.Asks.{ask_of}
-use Rattle.x86_fields.specs.declared.parts.Parts.{Parts}
-use Rattle.x86_fields.specs.Parts.{PartLists, lists_of}
+use Rattle.x86_operands.specs.Asks.{ask_of, modrm_of}
+use Rattle.x86_fields.specs.Parts.{PartLists}
 use Rattle.x86_layout.specs.Parts.Heads.{one_if}
-use Rattle.x86_layout.specs.Parts.Split.{Encoding, HasParts}
+use Rattle.x86_layout.specs.Parts.Split.{Encoding, HasParts, IsFirstSentence, joined}
 use Rattle.x86_layout.specs.Tightening.Registers.{is_ip_relative}
 use Rattle.x86_layout.specs.Tightening.Shortest.{shortest, IsOfBytes, address_length}
-use Rattle.x86_layout.specs.Tightening.Tighten.{has_memory_form, HasMemoryOperand, HasOperandForm, raw_of, respelled, respelled_length}
+use Rattle.x86_layout.specs.declared.tightening.tighten.TightenError.{TightenError}
+use Rattle.x86_layout.specs.declared.tightening.tighten.TightenError.TheVariants.{Refused, NoMemoryForm, IpRelative}
+use Rattle.x86_layout.specs.Tightening.Tighten.{has_memory_form, HasMemoryOperand, HasNoRelative, HasOperandForm, raw_of, respelled}
 use Rattle.x86_layout.proofs.PartLemmas.Part.{halves, read_as}
-use Rattle.x86_layout.proofs.PartLemmas.OfBytes.{option_count, first_of, IsFirstSentence, has_head, parts_are, as_first, there_in}
+use Rattle.x86_layout.proofs.PartLemmas.OfBytes.{option_count, first_of, has_head, parts_are, as_first, there_in}
 use Rattle.x86_operands.specs.Templates.{has_address, index_of_position, somewhere}
 use Rattle.x86_operands.specs.declared.order.Position.TheVariants.{First, Nowhere}
-use Rattle.x86_operands.specs.declared.plans.ModrmUse.{ModrmUse}
-use Rattle.x86_operands.specs.declared.plans.ModrmUse.TheVariants.{Absent, EitherForm, Registers}
-use Rattle.x86_operands.specs.Asks.{modrm_of}
-use Rattle.x86_operands.specs.Pieces.{modrm_width}
-use Rattle.x86_operands.specs.declared.plans.PrefixChange.{PrefixChange}
-use Rattle.x86_operands.specs.PlanSteps.{changed}
+use Rattle.x86_operands.specs.declared.vocabulary.ModrmUse.{ModrmUse}
+use Rattle.x86_operands.specs.declared.vocabulary.ModrmUse.TheVariants.{Absent, EitherForm, Registers}
+use Rattle.x86_operands.specs.declared.vocabulary.PrefixChange.{PrefixChange}
+use Rattle.x86_operands.specs.RowSteps.{changed}
 use Rattle.x86_layout.proofs.TightenLemmas.RegisterForm.{no_memory_slot}
 use Rattle.x86_layout.proofs.TightenLemmas.Rex.{seen_rex, seen_67}
-use Rattle.x86_layout.proofs.TightenLemmas.PlanAlike.{row_writes}
-use Rattle.x86_layout.proofs.TightenLemmas.Relative.{Row, Seen, Reads, Byte, Address, spells, fields, byte, length_is, no_longer, Bytes', long}
+use Rattle.x86_layout.proofs.TightenLemmas.InstanceAlike.{row_writes}
+use Rattle.x86_layout.proofs.TightenLemmas.Relative.{Row, Seen, Reads, Byte, Address, spells, fields, byte, length_is, Bytes', long}
 use Rattle.x86_layout.specs.Parts.OfBytes.{ask_in, parts_of}
 use Rattle.x86_decode.specs.declared.instructions.Instruction.{Instruction}
 use Rattle.x86_layout.specs.Tightening.Least.{least_by, least_length, shortest_length}
+
+never_true : (t : Bool) → (t ≡ true → ⊥) → t ≡ false
+never_true false h = refl
+never_true true h = absurd (h refl)
 
 -- ---- raw fields
 
@@ -53,18 +56,14 @@ module _ {strict : Bool} {s : List ℕ} {a : Reading} (v : Encoding strict s a) 
   some_memory e =
       let t = v.row_spelled.tail_spelled.pieces in
       some_by (Seen v) (Byte v) (Address v) t.memory
-      (as_first ((Row v).plan (Byte v)).order.rm (Seen v) (Byte v) (Address v) t.memory (there_in v) t.address_spelled) e
+      (as_first (order_of ((Row v).instance (Byte v))).rm (Seen v) (Byte v) (Address v) t.memory (there_in v) t.address_spelled) e
 
   -- ModRM is there, and its mod is that of memory
   form_is : is_memory (Byte v) ≡ true → has_memory_form v.row_spelled.modrm ≡ true
   form_is e = rw (byte v (some_memory e).1) e
 
   pub no_form : has_memory_form v.row_spelled.modrm ≡ false → is_memory (Byte v) ≡ false
-  no_form h = by (is_memory (Byte v)) refl
-    where
-      by : (t : Bool) → is_memory (Byte v) ≡ t → t ≡ false
-      by false e = refl
-      by true e = absurd (cc (form_is e, h))
+  no_form h = never_true (is_memory (Byte v)) (λ e. cc (form_is e, h))
 
   -- it is written as an operand
   pub operand_form : (raw : Raw) → Reads v raw → (ip : Bool) → is_ip_relative raw ≡ ip → HasOperandForm strict s a v ip
@@ -93,34 +92,15 @@ module _ {strict : Bool} {s : List ℕ} {a : Reading} (v : Encoding strict s a) 
         let fields = rw (seen_rex v.map v.opcode p, seen_67 v.map v.opcode p) at s.fields in
         rw (h.prefixes, h.modrm ∙ byte v read, address.0, address.1, first_of s.sib, s.disp_length) (sym fields)
 
-  module _ {raw : Raw} (read : Reads v raw) (parts : Parts) (h : HasParts strict s a v (lists_of parts)) where
-    module _ (fit : IsOfBytes raw) where
-      pub respelled_is : respelled parts (shortest raw) ≡ Bytes' v read fit
-      respelled_is =
-          cc (h.prefixes, h.escape, h.opcode, h.immediate, h.suffix)
-
-      pub respelled_fits : is_ip_relative raw ≡ false → length s ≤ 15 → respelled_length parts (shortest raw) ≤ 15
-      respelled_fits ip short =
-          let old = length_is v raw read in
-          let new = no_longer v read fit ip in
-          omega (
-            arith,
-            length-append {A = ℕ},
-            short,
-            old,
-            new,
-            ap length h.prefixes,
-            ap length h.escape,
-            ap length h.opcode,
-            ap length h.immediate,
-            ap length h.suffix,
-          )
+    pub respelled_is : (fit : IsOfBytes raw) → joined (respelled parts (shortest raw)) ≡ Bytes' v read fit
+    respelled_is fit = cc (h.prefixes, h.escape, h.opcode, h.immediate, h.suffix)
 
 -- ---- an instruction without a memory operand
 
 -- the operand of rm is the memory operand of ModRM
-named_at : (plan : Plan) → writes_modrm plan ≡ true → (index_of_position plan.order.rm < 4) × (names_modrm plan (index_of_position plan.order.rm) ≡ true)
-named_at plan h = by plan.order.rm (is_modrm_encoding plan.rm) h
+named_at : (instance : Instance) → writes_modrm instance ≡ true →
+    (index_of_position (order_of instance).rm < 4) × (names_modrm instance (index_of_position (order_of instance).rm) ≡ true)
+named_at instance h = by (order_of instance).rm (is_modrm_encoding instance.rm) h
   where
     by : (at : Position) (memory : Bool) → (somewhere at && memory) ≡ true →
         (index_of_position at < 4) × (((somewhere at && memory) && index_of_position at == index_of_position at) ≡ true)
@@ -129,19 +109,15 @@ named_at plan h = by plan.order.rm (is_modrm_encoding plan.rm) h
 
 module _ {strict : Bool} {s : List ℕ} {a : Instruction} (is : IsSentence (rows_of packed) strict s a)
     (slots : (raw : Raw) (k : ℕ) → Reads is.whole raw →
-    names_modrm (plan_within (rows_of packed) strict s is.reading is.whole) k ≡ true → slot_at a k ≡ (shape raw).0)
+    names_modrm (instance_within (rows_of packed) strict s is.reading is.whole) k ≡ true → slot_at a k ≡ (shape raw).0)
     (none : (k : ℕ) → k < 4 → is_memory_slot (slot_at a k) ≡ false) where
   -- where no slot is memory, ModRM isn't a memory form
   pub without_memory : is_memory (Byte is.whole) ≡ false
-  without_memory = by (is_memory (Byte is.whole)) refl
-    where
-      by : (t : Bool) → is_memory (Byte is.whole) ≡ t → t ≡ false
-      by false e = refl
-      by true e =
-          let some = some_memory is.whole e in
-          let plan = plan_within (rows_of packed) strict s is.reading is.whole in
-          let at = named_at plan (operand_form is.whole some.0 some.1 (is_ip_relative some.0) refl).operand.written in
-          cc (slots some.0 (index_of_position plan.order.rm) some.1 at.1, is_shape some.0, none (index_of_position plan.order.rm) at.0)
+  without_memory = never_true (is_memory (Byte is.whole)) (λ e.
+      let some = some_memory is.whole e in
+      let instance = instance_within (rows_of packed) strict s is.reading is.whole in
+      let at = named_at instance (operand_form is.whole some.0 some.1 (is_ip_relative some.0) refl).operand.written in
+      cc (slots some.0 (index_of_position (order_of instance).rm) some.1 at.1, is_shape some.0, none (index_of_position (order_of instance).rm) at.0))
 
 -- ---- a memory form by its byte
 
@@ -183,7 +159,7 @@ module _ {strict : Bool} {s : List ℕ} {a : Reading} (v : Encoding strict s a) 
   reads =
       let h = has_head [] v (sym (append-nil s)) in
       let used = read_as v.row_spelled v.row_spelled.tail (h.tail ∙ append-nil v.tail ∙ v.row_spelled.spelled) in
-      ap (λ ask. ask.memory) h.ask ∙ ap (λ n. has_address ((Row v).plan n).order.rm n) (sym used) ∙ there_in v
+      ap (λ ask. ask.memory) h.ask ∙ ap (λ n. has_address (order_of ((Row v).instance n)).rm n) (sym used) ∙ there_in v
 
   least_is : (memory : Bool) (raw : Raw) → is_memory (Byte v) ≡ memory → raw_of (parts_of strict s) ≡ raw →
       least_length strict s ≡ least_by memory raw (length s)
@@ -205,6 +181,13 @@ module _ {strict : Bool} {s : List ℕ} {a : Reading} (v : Encoding strict s a) 
         let old = length_is v raw read in
         let new = long v read fit t spelled in
         omega (arith, h, old, new)
+
+  -- an encoding without a relative to seek keeps its length
+  pub keeps : (error : TightenError) → HasNoRelative strict s a v error → least_length strict s ≡ length s
+  keeps (Refused error) h = absurd h
+  keeps NoMemoryForm h = least_without (never_true (is_memory (Byte v)) (λ e.
+      let read = some_memory v e in h (operand_form v read.0 read.1 (is_ip_relative read.0) refl).operand))
+  keeps IpRelative h = least_with h.operand.read true h.form
 
 -- at the beginning of bytes
 pub least_beginning : {strict : Bool} {bytes encoding : List ℕ} {instruction : Instruction} →

@@ -10,13 +10,13 @@ use Rattle.x86_forms.specs.declared.Map.{Map}
 use Rattle.x86_forms.specs.declared.Map.TheVariants.{One, Of, Of38, Of3a}
 use Rattle.x86_forms.specs.declared.TableRow.{TableRow}
 use Rattle.x86_forms.specs.Words.{rows_of, packed}
-use Rattle.x86_operands.specs.declared.plans.Verdict.{Verdict}
-use Rattle.x86_operands.specs.declared.plans.Verdict.TheVariants.{NamedBySuffix}
+use Rattle.x86_operands.specs.declared.vocabulary.Verdict.{Verdict}
+use Rattle.x86_operands.specs.declared.vocabulary.Verdict.TheVariants.{NamedBySuffix}
 use Rattle.x86_operands.specs.declared.asks.RecordAt.{RecordAt}
 use Rattle.x86_operands.specs.declared.reader.Reading.{Reading}
 use Rattle.x86_fields.specs.ModRM.{is_memory}
-use Rattle.x86_operands.specs.Plans.{is_refusal}
-use Rattle.x86_operands.specs.PlanSteps.{suffix_opcode, record_step}
+use Rattle.x86_operands.specs.Records.{is_refusal}
+use Rattle.x86_operands.specs.RowSteps.{suffix_opcode, record_step}
 use Rattle.x86_operands.specs.Asks.{record_at}
 use Rattle.x86_decode.specs.Head.{is_run, column_of, is_opcode, seen_by}
 use Rattle.x86_decode.specs.declared.instructions.Instruction.{Instruction}

@@ -1,19 +1,18 @@
 -- The parts of an encoding.
-use Rattle.std.specs.Prelude.{◌≡◌, ℕ, ◌==◌, ◌&&◌, Bool, if◌then◌else◌, List, [], ◌∷◌, ◌++◌, length, Ok}
+use Rattle.std.specs.Prelude.{◌≡◌, ℕ, ◌==◌, ◌&&◌, Bool, if◌then◌else◌, List, [], ◌∷◌, ◌++◌, length, take, Ok}
 use Rattle.x86_forms.specs.Words.{rows_of, packed}
 use Rattle.x86_fields.specs.Run.{reading_of}
 use Rattle.x86_fields.specs.ModRM.{rm_field, is_memory}
 use Rattle.x86_fields.specs.declared.parts.Parts.{Parts}
 use Rattle.x86_fields.specs.Parts.{PartLists, lists_of}
 use Rattle.x86_operands.specs.declared.reader.Reading.{Reading}
-use Rattle.x86_operands.specs.declared.places.Places.{Places}
-use Rattle.x86_operands.specs.Plans.{RowRecord}
+use Rattle.x86_operands.specs.Records.{RowRecord}
 use Rattle.x86_operands.specs.Asks.{modrm_of}
 use Rattle.x86_decode.specs.declared.instructions.Instruction.{Instruction}
 use Rattle.x86_decode.specs.Instruction.{length_of}
 use Rattle.x86_decode.specs.Head.{escape_bytes, seen_by}
 use Rattle.x86_groups.specs.Groups.{record_of}
-use Rattle.x86_decode.specs.Grammar.{Whole, places_of, IsSentence}
+use Rattle.x86_decode.specs.Grammar.{Whole, IsSentence}
 use Rattle.x86_decode.specs.Answer.{answer_of}
 
 -- whole encodings by the printed rows
@@ -40,16 +39,19 @@ module _ (strict : Bool) (s : List ℕ) (reading : Reading) (w : Encoding strict
     pub immediate : parts.immediate ≡ w.row_spelled.tail_spelled.pieces.immediates
     pub suffix : parts.suffix ≡ w.row_spelled.tail_spelled.pieces.suffix
 
--- These are the places of a whole encoding.
-pub record ArePlaces (s : List ℕ) (places : Places) : Type 0 where
-  pub strict : Bool
-  pub reading : Reading
-  pub whole : Encoding strict s reading
-  pub are : places ≡ places_of (rows_of packed) strict s reading whole
-
 -- the parts in order
 abbrev pub joined : PartLists → List ℕ
 joined p = p.prefixes ++ (p.escape ++ (p.opcode ++ (p.modrm ++ ((p.sib ++ p.displacement) ++ (p.immediate ++ p.suffix)))))
+
+-- The bytes are accepted, and begin with this sentence and with no other.
+pub record IsFirstSentence (strict : Bool) (bytes encoding : List ℕ) (instruction : Instruction) : Type 0 where
+  pub accepted : answer_of strict bytes ≡ Ok instruction
+  pub is : IsSentence (rows_of packed) strict encoding instruction
+  pub rest : List ℕ
+  pub begins : bytes ≡ encoding ++ rest
+  pub taken : encoding ≡ take (length_of instruction) bytes
+  pub long : length encoding ≡ length_of instruction
+  pub alone : (s other : List ℕ) (a : Instruction) → IsSentence (rows_of packed) strict s a → bytes ≡ s ++ other → (s ≡ encoding) × (a ≡ instruction)
 
 -- The bytes begin with an accepted encoding, which has these parts.
 pub record IsSplit (strict : Bool) (bytes : List ℕ) (split : Parts) : Type 0 where

@@ -1,5 +1,5 @@
--- The cuts of bytes.
-use Rattle.std.specs.Prelude.{ℕ, ◌+◌, ◌-◌, zero, suc, Bool, List, [], ◌∷◌, Result, Ok, Err}
+-- The cuts of bytes, and how far they reach.
+use Rattle.std.specs.Prelude.{ℕ, ◌+◌, ◌-◌, ◌<◌, ◌≤◌, zero, suc, Bool, List, [], ◌∷◌, Result, Ok, Err}
 use Rattle.x86_fields.specs.declared.errors.DecodeError.{DecodeError}
 use Rattle.x86_decode.specs.declared.instructions.Instruction.{Instruction}
 use Rattle.x86_decode.specs.Instruction.{length_of}
@@ -28,3 +28,7 @@ cuts_from strict place bytes = cuts_skipping strict 0 place bytes
 -- the cuts of an input
 abbrev pub cuts_of : Bool → List ℕ → List Cut
 cuts_of strict bytes = cuts_from strict 0 bytes
+
+-- The cut has some bytes, and ends at a place or before it.
+abbrev pub IsWithin : ℕ → Cut → Type 0
+IsWithin place c = (0 < c.length) × (c.place + c.length ≤ place)

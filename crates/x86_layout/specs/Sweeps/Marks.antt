@@ -1,11 +1,11 @@
 -- The places of bytes that the instructions of a sweep branch to.
-use Rattle.std.specs.Prelude.{ℕ, ◌+◌, ◌==◌, ◌&&◌, nat_lt, Bool, false, Option, Some, None, List, Result, Ok, Err}
+use Rattle.std.specs.Prelude.{ℕ, ◌+◌, ◌==◌, ◌&&◌, Bool, false, Option, Some, None, List, Result, Ok, Err}
 use Rattle.std.specs.List.{list_any}
 use Rattle.x86_fields.specs.declared.errors.DecodeError.{DecodeError}
 use Rattle.x86_decode.specs.declared.instructions.Instruction.{Instruction}
 use Rattle.x86_layout.specs.declared.sweeps.cuts.Cut.{Cut}
 use Rattle.x86_layout.specs.Sweeps.Cuts.{cuts_of}
-use Rattle.x86_layout.specs.Sweeps.Branches.{branch_target}
+use Rattle.x86_layout.specs.Sweeps.Flows.{branch_target}
 
 -- the target of an accepted cut; a refused one has none
 abbrev pub target_by : Result Instruction DecodeError → ℕ → Option ℕ
@@ -24,10 +24,6 @@ targets place c = is_target place (target_of_cut c)
 
 abbrev pub begins_at : ℕ → Cut → Bool
 begins_at place c = c.place == place
-
--- the place is after the first byte of a cut, and at most at its last one
-abbrev pub is_inside : ℕ → Cut → Bool
-is_inside place c = nat_lt c.place place && nat_lt place (c.place + c.length)
 
 -- the place is that of a cut of the bytes, and the target of a cut of the bytes
 abbrev pub is_marked : Bool → List ℕ → ℕ → Bool

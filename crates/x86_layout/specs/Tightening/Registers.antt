@@ -1,5 +1,5 @@
 -- Which registers an address adds, as base or as index. Source: Intel SDM volume 2, sections 2.1.5 and 2.2.1.
-use Rattle.std.specs.Prelude.{ℕ, ◌+◌, ◌<◌, ◌≢◌, ◌==◌, ◌&&◌, Bool, false, if◌then◌else◌, Option, Some, None}
+use Rattle.std.specs.Prelude.{ℕ, ◌<◌, ◌==◌, ◌&&◌, Bool, false, if◌then◌else◌, Option, Some, None}
 use Rattle.x86_regs.specs.declared.RegSpec.{RegSpec}
 use Rattle.x86_regs.specs.Register.{num}
 use Rattle.x86_fields.specs.declared.raw.Raw.{Raw}
@@ -29,32 +29,6 @@ scale_named factor = if factor == 1 then One else (if factor == 2 then Two else 
 -- the registers of raw fields that aren't relative to the next instruction
 abbrev pub registers_of : Raw → AddressRegisters
 registers_of raw = record { base = number_of (base_of raw); index = number_of (index_of raw); scale = scale_named (scale_by raw.sib) }
-
--- what the index counts
-abbrev pub times : Scale → ℕ
-times One = 1
-times Two = 2
-times Four = 4
-times Eight = 8
-
--- how often a register counts that is here
-abbrev pub part_weight : Option ℕ → ℕ → ℕ → ℕ
-part_weight None n r = 0
-part_weight (Some b) n r = if b == r then n else 0
-
--- how often a register counts in an address
-abbrev pub weight : AddressRegisters → ℕ → ℕ
-weight at r = part_weight at.base 1 r + part_weight at.index (times at.scale) r
-
--- a number from 0 to 15
-abbrev pub IsBelow16 : Option ℕ → Type 0
-IsBelow16 None = Unit {0}
-IsBelow16 (Some n) = n < 16
-
--- a number from 0 to 15, and not 4: rsp can't be an index
-abbrev pub IsIndex : Option ℕ → Type 0
-IsIndex None = Unit {0}
-IsIndex (Some n) = (n < 16) × (n ≢ 4)
 
 -- a byte, where there is one
 abbrev pub IsByteOption : Option ℕ → Type 0

@@ -22,48 +22,21 @@ requires_displacement base = field_bits base == 5
 abbrev pub omits_displacement : ℤ → ℕ → Bool
 omits_displacement disp base = is_zero disp && not (requires_displacement base)
 
--- an index alone is the base where it counts once, and both where it counts twice
-abbrev pub index_alone : ℕ → Scale → AddressRegisters
-index_alone index One = record { base = Some index; index = None; scale = One }
-index_alone index Two = record { base = Some index; index = Some index; scale = One }
-index_alone index Four = record { base = None; index = Some index; scale = Four }
-index_alone index Eight = record { base = None; index = Some index; scale = Eight }
-
--- base and index change places where that spares a displacement of 0
-abbrev pub exchanged : ℤ → ℕ → ℕ → AddressRegisters
-exchanged disp base index =
+-- an index alone is the base where it counts once, and both where it counts twice; base and index change places where
+-- that spares a displacement of 0
+abbrev pub arranged : ℤ → Option ℕ → Option ℕ → Scale → AddressRegisters
+arranged disp base None scale = record { base = base; index = None; scale = One }
+arranged disp None (Some index) One = record { base = Some index; index = None; scale = One }
+arranged disp None (Some index) Two = record { base = Some index; index = Some index; scale = One }
+arranged disp (Some base) (Some index) One =
     if is_zero disp && (requires_displacement base && not (requires_displacement index))
     then record { base = Some index; index = Some base; scale = One }
     else record { base = Some base; index = Some index; scale = One }
-
-abbrev pub base_and_index : ℤ → ℕ → ℕ → Scale → AddressRegisters
-base_and_index disp base index One = exchanged disp base index
-base_and_index disp base index scale = record { base = Some base; index = Some index; scale = scale }
-
-abbrev pub arranged : ℤ → Option ℕ → Option ℕ → Scale → AddressRegisters
-arranged disp None None scale = record { base = None; index = None; scale = One }
-arranged disp (Some b) None scale = record { base = Some b; index = None; scale = One }
-arranged disp None (Some i) scale = index_alone i scale
-arranged disp (Some b) (Some i) scale = base_and_index disp b i scale
+arranged disp base index scale = record { base = base; index = index; scale = scale }
 
 -- the base and the index of the shortest form
 abbrev pub shortest_registers : Raw → AddressRegisters
 shortest_registers raw = let at = registers_of raw in arranged raw.disp at.base at.index at.scale
-
--- ---- how many bytes
-
--- of the displacement, beside a base
-abbrev pub width_with_base : ℤ → ℕ → ℕ
-width_with_base disp base = if omits_displacement disp base then 0 else (if is_byte disp then 1 else 4)
-
--- of SIB and displacement, with this base and index
-abbrev pub bytes_by : ℤ → Option ℕ → Option ℕ → ℕ
-bytes_by disp None index = 5
-bytes_by disp (Some b) None = (if field_bits b == 4 then 1 else 0) + width_with_base disp b
-bytes_by disp (Some b) (Some i) = 1 + width_with_base disp b
-
-abbrev pub bytes_at : ℤ → AddressRegisters → ℕ
-bytes_at disp at = bytes_by disp at.base at.index
 
 -- how many bytes SIB and displacement of raw fields have
 abbrev pub address_length : Raw → ℕ
@@ -71,12 +44,9 @@ address_length raw = (if is_some raw.sib then 1 else 0) + displacement_width raw
 
 -- ---- the raw fields
 
-abbrev pub mod_with_base : ℤ → ℕ → ℕ
-mod_with_base disp base = if omits_displacement disp base then 0 else (if is_byte disp then 1 else 2)
-
 abbrev pub mod_of : ℤ → Option ℕ → ℕ
 mod_of disp None = 0
-mod_of disp (Some b) = mod_with_base disp b
+mod_of disp (Some b) = if omits_displacement disp b then 0 else (if is_byte disp then 1 else 2)
 
 -- the fourth bit of a register's number
 abbrev pub fourth_bit : Option ℕ → Bool

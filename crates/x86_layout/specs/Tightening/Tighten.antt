@@ -16,15 +16,13 @@ use Rattle.x86_decode.specs.declared.instructions.Instruction.{Instruction}
 use Rattle.x86_decode.specs.Head.{escape_bytes}
 use Rattle.x86_decode.specs.Grammar.{IsSentence}
 use Rattle.x86_decode.specs.Answer.{answer_of}
-use Rattle.x86_decode.specs.Addresses.{plan_within, writes_modrm}
-use Rattle.x86_fields.specs.declared.parts.Parts.{Parts}
+use Rattle.x86_decode.specs.Addresses.{instance_within, writes_modrm}
 use Rattle.x86_fields.specs.Parts.{PartLists, lists_of}
 use Rattle.x86_layout.specs.declared.tightening.tighten.Addressed.{Addressed}
 use Rattle.x86_layout.specs.declared.tightening.tighten.TightenError.{TightenError}
 use Rattle.x86_layout.specs.declared.tightening.tighten.TightenError.TheVariants.{Refused, NoMemoryForm, IpRelative}
 use Rattle.x86_layout.specs.Parts.Split.{Encoding, HasParts}
 use Rattle.x86_layout.specs.Tightening.Registers.{is_ip_relative}
-use Rattle.x86_layout.specs.Tightening.Shortest.{address_length}
 
 -- a REX with other bits X and B
 abbrev pub bits_in : Bool → Bool → Option PrefixRex → Option PrefixRex
@@ -54,25 +52,18 @@ raw_of parts = let p = reading_of parts.prefixes in record {
   disp = signed_by (length parts.displacement) parts.displacement;
 }
 
-abbrev pub raw_in : Parts → Raw
-raw_in parts = raw_of (lists_of parts)
-
 -- the displacement, in as many bytes as its fields have
 abbrev pub spelled_displacement : Raw → List ℕ
 spelled_displacement raw = take (displacement_width raw.modrm raw.sib) (to_le_bytes w32 (cast_unsigned w32 raw.disp))
 
-abbrev pub address_bytes : Raw → List ℕ
-address_bytes raw = option_bytes raw.sib ++ spelled_displacement raw
-
--- parts with other raw fields, in order
-abbrev pub respelled : Parts → Raw → List ℕ
-respelled p raw = run_with raw.rex_x raw.rex_b p.prefixes.now
-    ++ (p.escape.now ++ (p.opcode.now ++ (raw.modrm ∷ (address_bytes raw ++ (p.immediate.now ++ p.suffix.now)))))
-
--- how many bytes that are
-abbrev pub respelled_length : Parts → Raw → ℕ
-respelled_length p raw = length p.prefixes.now + length p.escape.now + length p.opcode.now + 1 + address_length raw + length p.immediate.now
-    + length p.suffix.now
+-- parts with other raw fields
+abbrev pub respelled : PartLists → Raw → PartLists
+respelled parts raw = record parts {
+  prefixes = run_with raw.rex_x raw.rex_b parts.prefixes;
+  modrm = raw.modrm ∷ [];
+  sib = option_bytes raw.sib;
+  displacement = spelled_displacement raw;
+}
 
 -- a ModRM byte is there, and its mod is that of memory
 abbrev pub has_memory_form : List ℕ → Bool
@@ -120,7 +111,7 @@ module _ (strict : Bool) (s : List ℕ) (a : Reading) (v : Encoding strict s a) 
   pub record HasMemoryOperand : Type 0 where
     pub raw : Raw
     pub read : v.row_spelled.tail_spelled.pieces.memory ≡ Some raw
-    pub written : writes_modrm (plan_within (rows_of packed) strict s a v) ≡ true
+    pub written : writes_modrm (instance_within (rows_of packed) strict s a v) ≡ true
 
   -- There is such an operand, and its base is the next instruction or isn't.
   pub record HasOperandForm (ip_relative : Bool) : Type 0 where

@@ -1,10 +1,9 @@
 //! The row that fields name.
 
-ghost use Rattle.std.specs.Prelude.{◌≡◌, Some, IfSome, IsTrue, length, slice_index};
+ghost use Rattle.std.specs.Prelude.{◌≡◌, IfSome, IsTrue};
 ghost use Rattle.x86_forms.specs.Words.{IsForm};
-ghost use Rattle.x86_decode.specs.Head.{escape_bytes, is_run, is_opcode};
-ghost use Rattle.x86_layout.specs.Parts.Heads.{map_of};
-ghost use Rattle.x86_layout.specs.Parts.Permitted.{map_named, entry_at, entry_of};
+ghost use Rattle.x86_decode.specs.Head.{is_run, is_opcode};
+ghost use Rattle.x86_layout.specs.Parts.Permitted.{map_named, entry_of};
 
 use crate::parts::fields::Fields;
 use x86_decode::builders::{column_of, is_prefix, is_vex, seen_by};
@@ -18,39 +17,16 @@ pub struct Entry {
     pub prefixes: Prefixes,
 }
 
-/// The map by the first two bytes after the run.
-fn map_of(rest: &[u8]) -> Map
-    ensures { result ≡ map_of (slice_index rest.now 0) (slice_index rest.now 1) }
-{
-    match rest {
-        [0x0f, 0x38, ..] => Map::Of38,
-        [0x0f, 0x3a, ..] => Map::Of3a,
-        [0x0f, ..] => Map::Of,
-        _ => Map::One,
-    }
-}
-
-/// How many bytes the escape of a map has.
-fn escape_length(map: Map) -> usize
-    ensures { result ≡ length (escape_bytes map) }
-{
-    match map {
-        Map::One => 0,
-        Map::Of => 1,
-        Map::Of38 | Map::Of3a => 2,
-    }
-}
-
 /// The map of an escape, where it is one of the four.
-#[tactic(auto, using(crate::proofs::PartLemmas::Part::map_named_is))]
 fn map_named(escape: &[u8]) -> Option<Map>
     ensures { result ≡ map_named escape.now }
 {
-    let map = map_of(escape);
-    if escape_length(map) == escape.len() {
-        Some(map)
-    } else {
-        None
+    match escape {
+        [] => Some(Map::One),
+        [0x0f] => Some(Map::Of),
+        [0x0f, 0x38] => Some(Map::Of38),
+        [0x0f, 0x3a] => Some(Map::Of3a),
+        _ => None,
     }
 }
 
@@ -65,23 +41,6 @@ fn is_opcode(map: Map, byte: u8) -> bool
     }
 }
 
-/// The row of an opcode byte in a map, after a run that reads so.
-fn entry_in(map: Map, prefixes: Prefixes, opcode: u8) -> Option<Entry>
-    ensures value { result ≡ entry_at (Some map) prefixes opcode }
-    ensures carried { IfSome result (λ entry. IsForm entry.row.form) }
-{
-    if !is_opcode(map, opcode) {
-        return None;
-    }
-    match unpack(packed(map, column_of(&prefixes), opcode)) {
-        Some(row) => Some(Entry {
-            row,
-            prefixes: seen_by(map, opcode, prefixes),
-        }),
-        None => None,
-    }
-}
-
 /// The row that fields with a legal run name: that of their opcode byte in the map of their escape and the column of
 /// the run.
 pub fn entry_of(fields: &Fields) -> Option<Entry>
@@ -89,8 +48,14 @@ pub fn entry_of(fields: &Fields) -> Option<Entry>
     ensures value { result ≡ entry_of fields.now }
     ensures carried { IfSome result (λ entry. IsForm entry.row.form) }
 {
-    match map_named(&fields.escape) {
-        Some(map) => entry_in(map, reading_of(&fields.prefixes), fields.opcode),
-        None => None,
+    let map = map_named(&fields.escape)?;
+    let run = reading_of(&fields.prefixes);
+    if !is_opcode(map, fields.opcode) {
+        return None;
     }
+    let row = unpack(packed(map, column_of(&run), fields.opcode))?;
+    Some(Entry {
+        row,
+        prefixes: seen_by(map, fields.opcode, run),
+    })
 }

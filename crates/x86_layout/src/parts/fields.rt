@@ -5,7 +5,6 @@ ghost use Rattle.x86_fields.specs.Pieces.{option_bytes};
 ghost use Rattle.x86_fields.specs.Parts.{lists_of, HasFieldLengths};
 ghost use Rattle.x86_layout.specs.Parts.Fields.{lists_in};
 
-use crate::parts::bytes::byte_at;
 use arrayvec::ArrayVec;
 use x86_fields::Parts;
 
@@ -31,7 +30,7 @@ pub struct Fields {
 }
 
 /// The bytes of a part, held in place.
-fn array_of<const N: usize>(bytes: &[u8]) -> ArrayVec<u8, N>
+pub fn array_of<const N: usize>(bytes: &[u8]) -> ArrayVec<u8, N>
     requires { length bytes.now ≤ N }
     ensures { result.items ≡ bytes.now }
 {
@@ -45,10 +44,7 @@ fn single(bytes: &[u8]) -> Option<u8>
     requires { length bytes.now ≤ 1 }
     ensures { option_bytes result ≡ bytes.now }
 {
-    match bytes {
-        [byte] => Some(*byte),
-        _ => None,
-    }
+    bytes.first().copied()
 }
 
 impl Fields {
@@ -62,7 +58,7 @@ impl Fields {
         Fields {
             prefixes: array_of(parts.prefixes),
             escape: array_of(parts.escape),
-            opcode: byte_at(parts.opcode, 0),
+            opcode: parts.opcode[0],
             modrm: single(parts.modrm),
             sib: single(parts.sib),
             displacement: array_of(parts.displacement),

@@ -8,18 +8,17 @@ ghost use Rattle.x86_forms.specs.Words.{rows_of, packed};
 ghost use Rattle.x86_operands.specs.Asks.{modrm_of};
 ghost use Rattle.x86_fields.specs.declared.raw.Raw.{Raw};
 ghost use Rattle.x86_operands.specs.Pieces.{SpellsMemory, modrm_width};
-ghost use Rattle.x86_operands.specs.declared.plans.ModrmUse.{ModrmUse};
+ghost use Rattle.x86_operands.specs.declared.vocabulary.ModrmUse.{ModrmUse};
 ghost use Rattle.x86_operands.specs.declared.order.Position.TheVariants.{First};
-ghost use Rattle.x86_operands.specs.declared.reader.Reading.{Reading};
+ghost use Rattle.x86_decode.specs.declared.instructions.Instruction.{Instruction};
 ghost use Rattle.x86_decode.specs.Decoder.{is_strict};
 ghost use Rattle.x86_decode.specs.Answer.{answer_of};
-ghost use Rattle.x86_decode.specs.Grammar.{places_of};
+ghost use Rattle.x86_decode.specs.Grammar.{IsSentence};
 ghost use Rattle.x86_decode.specs.Head.{is_run, escape_bytes};
-ghost use Rattle.x86_layout.specs.Parts.Split.{Encoding, HasParts, ArePlaces, IsSplit, sib_width};
+ghost use Rattle.x86_layout.specs.Parts.Split.{HasParts, IsFirstSentence, IsSentenceOf, IsSplit, sib_width};
 ghost use Rattle.x86_layout.specs.Parts.OfBytes.{parts_of};
 
-use crate::parts::bytes::{byte_at, split_at_most};
-use x86_decode::{InstDecoder, Instruction, Places, laws};
+use x86_decode::{InstDecoder, Instruction, laws};
 use x86_fields::{DecodeError, ModRM, Parts};
 
 /// How many bytes the escape has with which these bytes end: they are a run of prefixes and an escape.
@@ -48,19 +47,20 @@ fn split_address(fields: &[u8]) -> (&[u8], &[u8], &[u8])
         × (result.1.now ++ result.2.now ≡ address) }
 {
     let (modrm, address) = fields.split_at(usize::from(!fields.is_empty()));
-    let has_sib = !address.is_empty() && ModRM::new(byte_at(modrm, 0)).rm_field() == 4;
+    let has_sib = !address.is_empty() && ModRM::new(fields[0]).rm_field() == 4;
     let (sib, displacement) = address.split_at(usize::from(has_sib));
     (modrm, sib, displacement)
 }
 
-/// The parts of an encoding, by the places of their ends.
+/// The parts of an encoding, by the places of their ends that its instruction keeps.
 #[inline(always)]
-pub fn parts_at<'a>(encoding: &'a [u8], places: Places) -> Parts<'a>
-    requires { ArePlaces encoding.now places }
-    ensures { (strict : Bool) (reading : Reading) (w : Encoding strict encoding.now reading) →
-        places ≡ places_of (rows_of packed) strict encoding.now reading w →
-        HasParts strict encoding.now reading w (lists_of result) }
+pub fn parts_in<'a>(encoding: &'a [u8], instruction: &Instruction) -> Parts<'a>
+    requires { IsSentenceOf encoding.now instruction.now }
+    ensures { (strict : Bool)
+        (is : IsSentence (rows_of packed) strict encoding.now instruction.now) →
+        HasParts strict encoding.now is.reading is.whole (lists_of result) }
 {
+    let places = instruction.places();
     let opcode_end = usize::from(places.opcode_end);
     let (head, tail) = encoding.split_at(opcode_end);
     let (before, opcode) = head.split_at(opcode_end - 1);
@@ -80,6 +80,21 @@ pub fn parts_at<'a>(encoding: &'a [u8], places: Places) -> Parts<'a>
     }
 }
 
+/// The encoding of an instruction: the beginning of the bytes that it was decoded from.
+#[inline(always)]
+pub fn encoding_of<'a>(
+    decoder: &InstDecoder,
+    instruction: &Instruction,
+    bytes: &'a [u8],
+) -> &'a [u8]
+    requires decoded { answer_of (is_strict decoder.now) bytes.now ≡ Ok instruction.now }
+    ensures { IsFirstSentence (is_strict decoder.now) bytes.now result.now instruction.now }
+{
+    laws::lengths();
+    laws::answer_is();
+    &bytes[..instruction.len().to_const() as usize]
+}
+
 /// The parts of an encoding that was decoded: what [`split`] answers, with no second decode. `instruction` is what
 /// the decoder answers for the bytes.
 ///
@@ -95,10 +110,7 @@ pub fn split_decoded<'a>(
     ensures value { lists_of result ≡ parts_of (is_strict decoder.now) bytes.now }
     ensures lengths { HasFieldLengths (lists_of result) }
 {
-    laws::lengths();
-    laws::answer_is();
-    let (encoding, _) = split_at_most(bytes, instruction.len().to_const() as usize);
-    parts_at(encoding, instruction.places())
+    parts_in(encoding_of(decoder, instruction, bytes), instruction)
 }
 
 /// The parts of the accepted encoding at the beginning of the bytes, in order; their concatenation is that encoding.

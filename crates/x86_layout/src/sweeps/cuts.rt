@@ -1,7 +1,7 @@
 //! One piece of a sweep.
 
 ghost use Rattle.x86_decode.specs.Decoder.{is_strict};
-ghost use Rattle.std.specs.Prelude.{◌≡◌, ◌+◌, ◌<◌, ◌≤◌, length};
+ghost use Rattle.std.specs.Prelude.{◌≡◌, ◌<◌, ◌≤◌, length};
 ghost use Rattle.x86_layout.specs.Sweeps.Cuts.{cut_at, cut_length};
 
 use x86_decode::{InstDecoder, Instruction, laws};

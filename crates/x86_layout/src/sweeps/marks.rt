@@ -1,14 +1,13 @@
 //! The places of bytes that the instructions of a sweep branch to.
 
 ghost use Rattle.x86_decode.specs.Decoder.{is_strict};
-ghost use Rattle.std.specs.Prelude.{◌≡◌, ◌+◌, ◌^◌, ◌<◌, ◌≤◌, ◌&&◌, ◌||◌, ℕ, Bool, not, false, length, slice_index_or};
+ghost use Rattle.std.specs.Prelude.{◌≡◌, ◌+◌, ◌^◌, ◌<◌, ◌≤◌, ◌&&◌, ◌||◌, ℕ, nat_le, nat_lt, not, false, length, slice_index_or};
 ghost use Rattle.std.specs.List.{list_any};
 ghost use Rattle.x86_layout.specs.Sweeps.Cuts.{cuts_of};
-ghost use Rattle.x86_layout.specs.Sweeps.Marks.{target_of_cut, targets, begins_at, is_inside, is_marked};
-ghost use Rattle.x86_layout.specs.Sweeps.Lengths.{IsWithin};
+ghost use Rattle.x86_layout.specs.Sweeps.Marks.{target_of_cut, targets, begins_at, is_marked};
 
-use crate::sweeps::branches::branch_target;
 use crate::sweeps::cuts::Cut;
+use crate::sweeps::flows::branch_target;
 use crate::sweeps::sweep::Sweep;
 use x86_decode::{InstDecoder, laws};
 
@@ -36,24 +35,16 @@ fn mark_target(cut: &Cut, marks: &mut [bool])
     }
 }
 
-/// Takes the marks inside a cut away.
-fn clear_inside(cut: &Cut, marks: &mut [bool])
-    requires { IsWithin (length marks.old) cut.now }
+/// Takes the marks in a range of places away.
+fn clear(from: usize, to: usize, marks: &mut [bool])
+    requires order { from ≤ to }
+    requires within { to ≤ length marks.old }
     ensures { (p : ℕ) → p < length marks.old →
         slice_index_or marks.new p false
-        ≡ (slice_index_or marks.old p false && not (is_inside p cut.now)) }
+        ≡ (slice_index_or marks.old p false && not (nat_le from p && nat_lt p to)) }
 {
-    for place in cut.place + 1..cut.place + cut.length {
+    for place in from..to {
         marks[place] = false;
-    }
-}
-
-/// Takes all marks away.
-fn clear(marks: &mut [bool])
-    ensures { (p : ℕ) → p < length marks.old → slice_index_or marks.new p false ≡ false }
-{
-    for mark in marks.iter_mut() {
-        *mark = false;
     }
 }
 
@@ -81,7 +72,7 @@ fn clear_inside_all(decoder: &InstDecoder, bytes: &[u8], marks: &mut [bool])
 {
     laws::lengths();
     for cut in Sweep::new(*decoder, bytes) {
-        clear_inside(&cut, marks);
+        clear(cut.place + 1, cut.place + cut.length, marks);
     }
 }
 
@@ -95,7 +86,7 @@ pub fn mark_targets(decoder: &InstDecoder, bytes: &[u8], marks: &mut [bool])
     ensures { (p : ℕ) → p < length marks.old →
         slice_index_or marks.new p false ≡ is_marked (is_strict decoder.now) bytes.now p }
 {
-    clear(marks);
+    clear(0, marks.len(), marks);
     mark_targets_of(decoder, bytes, marks);
     clear_inside_all(decoder, bytes, marks);
 }

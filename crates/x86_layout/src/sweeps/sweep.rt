@@ -1,7 +1,7 @@
 //! Sweeps: bytes cut into pieces from the first to the last, past every refusal.
 
 ghost use Rattle.x86_decode.specs.Decoder.{is_strict};
-ghost use Rattle.std.specs.Prelude.{◌≡◌, ◌+◌, ◌^◌, ◌<◌, ◌≤◌, ◌∷◌, length, drop};
+ghost use Rattle.std.specs.Prelude.{◌≡◌, ◌+◌, ◌^◌, ◌<◌, length};
 
 use crate::sweeps::cuts::{Cut, first_cut};
 use x86_decode::InstDecoder;
@@ -18,14 +18,6 @@ pub struct Sweep<'a> {
     ghost in_range: { place + length rest.now < 2 ^ 64 },
 }
 
-/// The bytes from a place on.
-fn from_place(bytes: &[u8], place: usize) -> &[u8]
-    requires { place ≤ length bytes.now }
-    ensures { result.now ≡ drop place bytes.now }
-{
-    &bytes[place..]
-}
-
 impl<'a> Sweep<'a> {
     ghost use Rattle.x86_layout.specs.Sweeps.Cuts.{cuts_of};
     ghost use Rattle.x86_layout.specs.Sweeps.Sweep.{cuts_left};
@@ -40,19 +32,6 @@ impl<'a> Sweep<'a> {
             rest: bytes,
         }
     }
-
-    /// Cuts off the first cut of what is left.
-    #[tactic(auto, using(crate::proofs::SweepLemmas::Place::first_and_rest))]
-    fn cut_off(&mut self) -> Cut
-        requires { 0 < length self.old.rest.now }
-        ensures first { cuts_left self.old ≡ result ∷ cuts_left self.new }
-        ensures fewer { length (cuts_left self.new) < length (cuts_left self.old) }
-    {
-        let cut = first_cut(&self.decoder, self.place, self.rest);
-        self.place += cut.length;
-        self.rest = from_place(self.rest, cut.length);
-        cut
-    }
 }
 
 impl<'a> Iterator for Sweep<'a> {
@@ -65,11 +44,14 @@ impl<'a> Iterator for Sweep<'a> {
 
     ghost remaining = { item_count cuts_left };
 
-    #[tactic(auto, using(crate::proofs::SweepLemmas::Place::none_left))]
+    #[tactic(auto, using(crate::proofs::SweepLemmas::Place::cut_laws))]
     fn next(&mut self) -> Option<Cut> {
         if self.rest.is_empty() {
             return None;
         }
-        Some(self.cut_off())
+        let cut = first_cut(&self.decoder, self.place, self.rest);
+        self.place += cut.length;
+        (_, self.rest) = self.rest.split_at(cut.length);
+        Some(cut)
     }
 }

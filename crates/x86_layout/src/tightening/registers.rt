@@ -1,12 +1,11 @@
 //! Which registers an address adds, as base or as index.
 
 ghost use Rattle.std.specs.Prelude.{◌≡◌};
-ghost use Rattle.x86_layout.specs.Tightening.Registers.{number_of, scale_named, registers_of, is_ip_relative};
+ghost use Rattle.x86_layout.specs.Tightening.Registers.{scale_named, registers_of, is_ip_relative};
 
 use x86_fields::{ModRM, Raw};
-use x86_regs::RegSpec;
 
-/// What an index is multiplied by.
+/// What an index is multiplied by, in the order of the scale field's bits.
 #[derive(Clone, Copy, Drop)]
 pub enum Scale {
     One,
@@ -21,16 +20,6 @@ pub struct AddressRegisters {
     pub base: Option<u8>,
     pub index: Option<u8>,
     pub scale: Scale,
-}
-
-/// The number of a register, where there is one.
-fn number_of(register: Option<RegSpec>) -> Option<u8>
-    ensures { result ≡ number_of register }
-{
-    match register {
-        Some(register) => Some(register.num()),
-        None => None,
-    }
 }
 
 /// The scale by its factor.
@@ -50,8 +39,8 @@ pub fn registers_of(raw: &Raw) -> AddressRegisters
     ensures { result ≡ registers_of raw.now }
 {
     AddressRegisters {
-        base: number_of(raw.base()),
-        index: number_of(raw.index()),
+        base: raw.base().map(|register| register.num()),
+        index: raw.index().map(|register| register.num()),
         scale: scale_named(raw.scale()),
     }
 }

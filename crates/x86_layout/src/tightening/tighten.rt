@@ -1,6 +1,6 @@
 //! The shortest encoding of an address. Source: Intel SDM volume 2, sections 2.1.5 and 2.2.1.
 
-ghost use Rattle.std.specs.Prelude.{◌≡◌, ◌≤◌, ◌<◌, ℕ, Bool, false, true, length, MatchResult, IfErr, Ok};
+ghost use Rattle.std.specs.Prelude.{◌≡◌, ◌<◌, ℕ, Bool, false, true, length, MatchResult, Ok};
 ghost use Rattle.x86_forms.specs.Words.{rows_of, packed};
 ghost use Rattle.x86_operands.specs.Operands.{is_memory_slot};
 ghost use Rattle.x86_decode.specs.Decoder.{is_strict};
@@ -8,14 +8,14 @@ ghost use Rattle.x86_decode.specs.declared.instructions.Instruction.{Instruction
 ghost use Rattle.x86_decode.specs.Grammar.{IsSentence};
 ghost use Rattle.x86_decode.specs.Instruction.{slot_at};
 ghost use Rattle.x86_layout.specs.Parts.Split.{IsSentenceOf};
-ghost use Rattle.x86_layout.specs.Tightening.Least.{least_length, shortest_length, HasShortestLength};
+ghost use Rattle.x86_layout.specs.Tightening.Least.{shortest_length, HasShortestLength};
 ghost use Rattle.x86_decode.specs.Answer.{answer_of};
 ghost use Rattle.x86_layout.specs.Tightening.Tighten.{has_memory_form, IsTightened, IsAddressed, HasNoRelative, OfFirstSentence, IsNotTightened};
 
-use crate::parts::bytes::split_at_most;
-use crate::parts::split::parts_at;
+use crate::parts::emit::joined;
+use crate::parts::split::{encoding_of, parts_in};
 use crate::tightening::registers::is_ip_relative;
-use crate::tightening::respell::{address_length, raw_in, respelled};
+use crate::tightening::respell::{address_length, raw_of, respelled};
 use crate::tightening::shortest::shortest;
 use arrayvec::ArrayVec;
 use thiserror::Error;
@@ -43,80 +43,6 @@ struct Addressed<'a> {
     raw: Raw,
 }
 
-/// What an encoding has that may have a shorter relative; else why there is none to seek.
-#[inline(always)]
-fn addressed_in<'a>(
-    instruction: &Instruction,
-    encoding: &'a [u8],
-) -> Result<Addressed<'a>, TightenError>
-    requires { IsSentenceOf encoding.now instruction.now }
-    ensures raw { (strict : Bool)
-        (is : IsSentence (rows_of packed) strict encoding.now instruction.now) →
-        MatchResult result (λ found. IsAddressed strict encoding.now is.reading is.whole found)
-        (λ error. HasNoRelative strict encoding.now is.reading is.whole error) }
-    ensures least { (strict : Bool) →
-        IsSentence (rows_of packed) strict encoding.now instruction.now →
-        IfErr result (λ _. least_length strict encoding.now ≡ length encoding.now) }
-{
-    laws::memory_operands_denote_their_raw_fields();
-    if !names_memory(instruction) {
-        return Err(TightenError::NoMemoryForm);
-    }
-    let parts = parts_at(encoding, instruction.places());
-    if !has_memory_form(parts.modrm) {
-        return Err(TightenError::NoMemoryForm);
-    }
-    let raw = raw_in(&parts, &instruction.prefixes);
-    if is_ip_relative(&raw) {
-        return Err(TightenError::IpRelative);
-    }
-    Ok(Addressed { parts, raw })
-}
-
-/// The shortest relative of an encoding.
-fn tightened(instruction: &Instruction, encoding: &[u8]) -> Result<ArrayVec<u8, 15>, TightenError>
-    requires { IsSentenceOf encoding.now instruction.now }
-    ensures shortest { (strict : Bool)
-        (is : IsSentence (rows_of packed) strict encoding.now instruction.now) →
-        MatchResult result (λ t. IsTightened strict encoding.now is.reading is.whole t.items)
-        (λ error. HasNoRelative strict encoding.now is.reading is.whole error) }
-    ensures least { (strict : Bool) →
-        IsSentence (rows_of packed) strict encoding.now instruction.now →
-        MatchResult result (λ t. length t.items ≡ least_length strict encoding.now)
-        (λ _. least_length strict encoding.now ≡ length encoding.now) }
-{
-    match addressed_in(instruction, encoding) {
-        Ok(found) => Ok(respelled(&found.parts, &shortest(&found.raw))),
-        Err(error) => Err(error),
-    }
-}
-
-/// Whether a ModRM byte is there, and its mod is that of memory.
-#[inline(always)]
-fn has_memory_form(modrm: &[u8]) -> bool
-    ensures { result ≡ has_memory_form modrm.now }
-{
-    match modrm {
-        [byte] => ModRM::new(*byte).is_memory(),
-        _ => false,
-    }
-}
-
-/// How many bytes a shortest relative has, and the encoding itself where it has none to seek.
-fn least_length(instruction: &Instruction, encoding: &[u8]) -> usize
-    requires { IsSentenceOf encoding.now instruction.now }
-    ensures { (strict : Bool) →
-        IsSentence (rows_of packed) strict encoding.now instruction.now →
-        result ≡ least_length strict encoding.now }
-{
-    match addressed_in(instruction, encoding) {
-        Ok(found) => {
-            encoding.len() - address_length(&found.raw) + address_length(&shortest(&found.raw))
-        }
-        Err(_) => encoding.len(),
-    }
-}
-
 /// Whether an operand is in memory.
 #[inline(always)]
 fn names_memory(instruction: &Instruction) -> bool
@@ -133,6 +59,44 @@ fn names_memory(instruction: &Instruction) -> bool
     false
 }
 
+/// Whether a ModRM byte is there, and its mod is that of memory.
+#[inline(always)]
+fn has_memory_form(modrm: &[u8]) -> bool
+    ensures { result ≡ has_memory_form modrm.now }
+{
+    match modrm {
+        [byte] => ModRM::new(*byte).is_memory(),
+        _ => false,
+    }
+}
+
+/// What an encoding has that may have a shorter relative; else why there is none to seek.
+#[inline(always)]
+fn addressed_in<'a>(
+    instruction: &Instruction,
+    encoding: &'a [u8],
+) -> Result<Addressed<'a>, TightenError>
+    requires { IsSentenceOf encoding.now instruction.now }
+    ensures { (strict : Bool)
+        (is : IsSentence (rows_of packed) strict encoding.now instruction.now) →
+        MatchResult result (λ found. IsAddressed strict encoding.now is.reading is.whole found)
+        (λ error. HasNoRelative strict encoding.now is.reading is.whole error) }
+{
+    laws::memory_operands_denote_their_raw_fields();
+    if !names_memory(instruction) {
+        return Err(TightenError::NoMemoryForm);
+    }
+    let parts = parts_in(encoding, instruction);
+    if !has_memory_form(parts.modrm) {
+        return Err(TightenError::NoMemoryForm);
+    }
+    let raw = raw_of(&parts, &instruction.prefixes);
+    if is_ip_relative(&raw) {
+        return Err(TightenError::IpRelative);
+    }
+    Ok(Addressed { parts, raw })
+}
+
 /// How many bytes a shortest relative of an encoding has that was decoded, and the encoding itself where it has none
 /// to seek: the length of what [`tighten`] answers, with no second decode. `instruction` is what the decoder answers
 /// for the bytes.
@@ -142,10 +106,12 @@ pub fn shortest_length(decoder: &InstDecoder, instruction: &Instruction, bytes: 
     requires decoded { answer_of (is_strict decoder.now) bytes.now ≡ Ok instruction.now }
     ensures { result ≡ shortest_length (is_strict decoder.now) bytes.now }
 {
-    laws::lengths();
-    laws::answer_is();
-    let (encoding, _) = split_at_most(bytes, instruction.len().to_const() as usize);
-    least_length(instruction, encoding) as u64
+    let encoding = encoding_of(decoder, instruction, bytes);
+    let length = encoding.len() as u64;
+    match addressed_in(instruction, encoding) {
+        Ok(found) => length - address_length(&found.raw) + address_length(&shortest(&found.raw)),
+        Err(_) => length,
+    }
 }
 
 /// The shortest encoding with the same address as the accepted encoding at the beginning of the bytes.
@@ -165,12 +131,10 @@ pub fn tighten(decoder: &InstDecoder, bytes: &[u8]) -> Result<ArrayVec<u8, 15>, 
         (λ t. length t.items ≡ shortest_length (is_strict decoder.now) bytes.now)
         (λ _. HasShortestLength (is_strict decoder.now) bytes.now) }
 {
-    laws::lengths();
-    laws::answer_is();
     let instruction = match decoder.decode_slice(bytes) {
         Ok(instruction) => instruction,
         Err(error) => return Err(TightenError::Refused(error)),
     };
-    let (encoding, _) = split_at_most(bytes, instruction.len().to_const() as usize);
-    tightened(&instruction, encoding)
+    let found = addressed_in(&instruction, encoding_of(decoder, &instruction, bytes))?;
+    Ok(joined(&respelled(&found.parts, &shortest(&found.raw))).unwrap())
 }

@@ -1,6 +1,6 @@
-use Rattle.std.proofs.Common.{false, subst, ◌≡◌, ◌==◌, arith}
-use Rattle.std.proofs.lemmas.Bool.{ne_eqb}
-use Rattle.x86_groups.proofs.CellLemmas.{cell_at, cell_is_sure, cells_below, number_below, row_below}
+use Rattle.std.proofs.Common.{arith}
+use Rattle.x86_forms.specs.declared.TableRow.{TableRow}
+use Rattle.x86_groups.proofs.CellLemmas.{cells_below, number_below, row_below, row_of_cell}
 use Rattle.x86_groups.proofs.cells.cell_row.Goals as goal
 
 pub bounds-form_number : goal.bounds-form_number
@@ -13,10 +13,20 @@ pub bounds-row-cell : goal.bounds-row-cell
 bounds-row-cell c =
     row_below _ _ _ _ (cells_below c.args.form_number _ (number_below c.args.form_number _ c.requires.1)) c.cell_index.ensures.small
 
-pub returns : goal.returns
-returns c = λ found is.
-    let same = cell_at c.args.form_number found.form c.args.modrm c.cell_index.result _ _ _ is c.cell_index.ensures.reg c.cell_index.ensures.index in
-    let some = subst (λ n. (n == 0) ≡ false) c.operation_number-number.ensures (ne_eqb _ 0 c.if-number-eq0.false) in
-    let both = cell_is_sure found 0 c.args.modrm is.group is.celled _ _ same some in
-    rw (c.unwrap_or.ensures, c.from_number.ensures, c.operation_number-number.ensures)
-    (record { at_once = record { small = omega arith; fits = both.0 }; plan = both.1 })
+pub numbered-requires : goal.numbered-requires
+numbered-requires c =
+    let row : TableRow = record { opcode = 0; form = c.requires.0 } in
+    (row_of_cell c.args.form_number _ _ _ c.args.modrm row _ _ _ c.requires.1 c.cell_index.ensures.reg c.cell_index.ensures.index
+    c.operation_number-number.ensures c.if-number-eq0.false).named
+
+pub returns-clause-sure : goal.returns-clause-sure
+returns-clause-sure c = λ found is.
+    let row = row_of_cell c.args.form_number _ _ _ c.args.modrm found _ _ _ is c.cell_index.ensures.reg c.cell_index.ensures.index
+    c.operation_number-number.ensures c.if-number-eq0.false in
+    rw c.numbered.ensures (record { at_once = record { small = omega arith; fits = row.fits }; instance = row.instance })
+
+pub returns-clause-free : goal.returns-clause-free
+returns-clause-free c =
+    let row : TableRow = record { opcode = 0; form = c.requires.0 } in
+    (row_of_cell c.args.form_number _ _ _ c.args.modrm row _ _ _ c.requires.1 c.cell_index.ensures.reg c.cell_index.ensures.index
+    c.operation_number-number.ensures c.if-number-eq0.false).free

@@ -1,9 +1,5 @@
-use Rattle.x86_operands.proofs.PlainLemmas.{plain_in_order}
 use Rattle.x86_operands.proofs.TieLemmas.{spelled_tied}
 use Rattle.x86_operands.proofs.laws.readings_are_tied.Goals as goal
 
 pub returns-clause-spelled : goal.returns-clause-spelled
-returns-clause-spelled c r p bytes reading ordered row_spelled = spelled_tied r p bytes reading row_spelled ordered
-
-pub returns-clause-in_order : goal.returns-clause-in_order
-returns-clause-in_order c = plain_in_order
+returns-clause-spelled c r p bytes reading row_spelled = spelled_tied r p bytes reading row_spelled

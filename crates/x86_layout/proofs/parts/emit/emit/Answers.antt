@@ -1,9 +1,19 @@
-use Rattle.std.proofs.Common.{sym}
+use Rattle.std.proofs.Common.{rules}
+use Rattle.x86_decode.specs.Decoder.{is_strict}
+use Rattle.x86_layout.specs.Parts.Permitted.{first_failing}
 use Rattle.x86_layout.proofs.PartLemmas.Emit.{read_again}
 use Rattle.x86_layout.proofs.parts.emit.emit.Goals as goal
 
+pub returns-clause-permitted : goal.returns-clause-permitted
+unfolding first_failing
+returns-clause-permitted c = search rules
+
+pub returns-clause-bytes : goal.returns-clause-bytes
+returns-clause-bytes c = search rules
+
 pub returns-clause-decodes : goal.returns-clause-decodes
 returns-clause-decodes c =
+    let strict = is_strict c.args.decoder.now in
     let f = c.args.fields.now in
-    rw (sym c.is_strict.ensures) (read_again (λ bytes. bytes.items) c.is_strict.result f c.emit_permitted.result
-    (λ rest. c.permitted_fields_are_split_again.ensures c.is_strict.result f rest) c.emit_permitted.ensures.permitted.0 c.emit_permitted.ensures.bytes)
+    read_again (λ bytes. bytes.items) strict f c.ok_or-2.result (c.permitted_fields_are_split_again.ensures strict f)
+    (returns-clause-permitted c).0 (returns-clause-bytes c)

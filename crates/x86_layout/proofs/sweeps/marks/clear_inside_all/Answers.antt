@@ -1,7 +1,7 @@
 use Rattle.std.proofs.Common.{length, arith, ap, ◌∙◌}
 use Rattle.std.proofs.lemmas.List.Elements.{All-rest}
 use Rattle.x86_layout.specs.Sweeps.Sweep.{cuts_left}
-use Rattle.x86_layout.specs.Sweeps.Lengths.{IsWithin}
+use Rattle.x86_layout.specs.Sweeps.Cuts.{IsWithin}
 use Rattle.x86_layout.proofs.SweepLemmas.Place.{all_within, begins_or_inside, one_more_cleared, all_cleared}
 use Rattle.x86_layout.proofs.sweeps.marks.clear_inside_all.Goals as goal
 
@@ -18,7 +18,7 @@ loop-cut-preserved c =
       tt,
       tt,
       within,
-      λ p h. one_more_cleared _ _ _ _ _ (c.clear_inside.ensures p (omega (arith, c.loop-cut.auto.marks))) (rw e at (before.3 p h)),
+      λ p h. one_more_cleared _ _ _ _ _ (c.clear.ensures p (omega (arith, c.loop-cut.auto.marks))) (rw e at (before.3 p h)),
     )
 
 pub returns : goal.returns

@@ -1,9 +1,8 @@
 use Rattle.std.proofs.Common.{◌≡◌, ◌<◌, ◌&&◌, ℕ, not, false, length, slice_index_or}
 use Rattle.std.specs.List.{list_any, All}
-use Rattle.x86_layout.specs.Sweeps.Cuts.{cuts_of}
+use Rattle.x86_layout.specs.Sweeps.Cuts.{cuts_of, IsWithin}
 use Rattle.x86_layout.specs.Sweeps.Sweep.{cuts_left}
-use Rattle.x86_layout.specs.Sweeps.Lengths.{IsWithin}
-use Rattle.x86_layout.specs.Sweeps.Marks.{is_inside}
+use Rattle.x86_layout.proofs.SweepLemmas.Place.{is_inside}
 use Rattle.x86_layout.proofs.sweeps.marks.clear_inside_all.Given as goal
 
 abbrev pub invariant-loop-cut : goal.invariant-loop-cut

@@ -1,7 +1,7 @@
 use Rattle.std.proofs.Common.{length, arith, ap, ◌∙◌}
 use Rattle.std.proofs.lemmas.List.Elements.{All-rest}
 use Rattle.x86_layout.specs.Sweeps.Sweep.{cuts_left}
-use Rattle.x86_layout.specs.Sweeps.Lengths.{IsWithin}
+use Rattle.x86_layout.specs.Sweeps.Cuts.{IsWithin}
 use Rattle.x86_layout.proofs.SweepLemmas.Place.{all_within, one_more_marked}
 use Rattle.x86_layout.proofs.sweeps.marks.mark_targets_of.Goals as goal
 

@@ -1,8 +1,7 @@
 use Rattle.std.proofs.Common.{◌≡◌, ◌<◌, ◌||◌, ℕ, false, length, slice_index_or}
 use Rattle.std.specs.List.{list_any, All}
-use Rattle.x86_layout.specs.Sweeps.Cuts.{cuts_of}
+use Rattle.x86_layout.specs.Sweeps.Cuts.{cuts_of, IsWithin}
 use Rattle.x86_layout.specs.Sweeps.Sweep.{cuts_left}
-use Rattle.x86_layout.specs.Sweeps.Lengths.{IsWithin}
 use Rattle.x86_layout.specs.Sweeps.Marks.{targets}
 use Rattle.x86_layout.proofs.sweeps.marks.mark_targets_of.Given as goal
 

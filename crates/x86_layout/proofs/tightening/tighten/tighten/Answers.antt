@@ -1,69 +1,105 @@
-use Rattle.std.proofs.Common.{◌≡◌, ℕ, Bool, List, length, Result, Ok, Err, MatchResult, refl, sym, ap, subst, ◌∙◌}
+use Rattle.std.proofs.Common.{◌≡◌, Bool, false, List, ℕ, zero, suc, [], ◌∷◌, slice_index, Err, Fits, w8, sym, ap, subst, arith, ◌∙◌}
+use Rattle.std.proofs.lemmas.Bool.Decides.{nat_tests}
+use Rattle.x86_fields.specs.declared.raw.Raw.{Raw}
+use Rattle.x86_fields.specs.Parts.{PartLists, lists_of}
 use Rattle.x86_forms.specs.Words.{rows_of, packed}
+use Rattle.x86_decode.proofs.ByteLemmas.{Bytes, bytes_before}
 use Rattle.x86_decode.specs.declared.instructions.Instruction.{Instruction}
-use Rattle.x86_decode.specs.Grammar.{IsAccepted, IsSentence}
+use Rattle.x86_decode.specs.Grammar.{IsSentence}
+use Rattle.x86_layout.specs.declared.tightening.tighten.Addressed.{Addressed}
 use Rattle.x86_layout.specs.declared.tightening.tighten.TightenError.{TightenError}
 use Rattle.x86_layout.specs.declared.tightening.tighten.TightenError.TheVariants.{Refused, NoMemoryForm, IpRelative}
-use Rattle.x86_layout.specs.Tightening.Least.{least_length, shortest_length, HasShortestLength}
-use Rattle.x86_layout.specs.Tightening.Tighten.{OfFirstSentence, Statement, IsTightened, HasNoRelative, IsNotTightened}
-use Rattle.x86_layout.proofs.PartLemmas.Part.{halves}
-use Rattle.x86_layout.proofs.PartLemmas.Emit.{Only}
-use Rattle.x86_layout.proofs.PartLemmas.OfBytes.{IsFirstSentence, beginning_of}
-use Rattle.x86_layout.proofs.TightenLemmas.Tighten.{least_beginning}
+use Rattle.x86_layout.specs.Parts.Fields.{lists_in}
+use Rattle.x86_layout.specs.Parts.Split.{IsFirstSentence, joined}
+use Rattle.x86_layout.specs.Tightening.Shortest.{shortest, IsOfBytes}
+use Rattle.x86_layout.specs.Tightening.Tighten.{respelled, OfFirstSentence, Statement, HasNoRelative, IsAddressed, IsNotTightened}
+use Rattle.x86_layout.proofs.PartLemmas.OfBytes.{lengths_of}
+use Rattle.x86_layout.proofs.TightenLemmas.Relative.{Bytes', fits, raw_of_bytes, shortest_relative}
+use Rattle.x86_layout.proofs.TightenLemmas.Tighten.{keeps, least_beginning, least_of_shortest, operand_form, respelled_is}
 use Rattle.x86_layout.proofs.tightening.tighten.tighten.Goals as goal
 
-abbrev Sentence : Bool → List ℕ → Instruction → Type 0
-Sentence strict s a = IsSentence (rows_of packed) strict s a
+bytes_at : (l : List ℕ) → ((i : ℕ) → Fits w8 (slice_index l i)) → Bytes l
+bytes_at [] h = tt
+bytes_at (b ∷ l) h = (let f : Fits w8 b = h zero in omega (arith, f), bytes_at l (λ i. h (suc i)))
 
--- what holds of an encoding at the beginning holds of each sentence there, and its least length is that of the bytes
 module _ {strict : Bool} {bytes encoding : List ℕ} {instruction : Instruction} (beginning : IsFirstSentence strict bytes encoding instruction) where
-  of_first_sentence : Only strict → (Holds : Statement) →
-      ((strict : Bool) (is : Sentence strict encoding instruction) → Holds strict encoding is.reading is.whole) → OfFirstSentence strict bytes Holds
-  of_first_sentence only Holds each = record {
+  abbrev Sentence : List ℕ → Instruction → Type 0
+  Sentence s a = IsSentence (rows_of packed) strict s a
+
+  -- what holds of an encoding at the beginning holds of each sentence there
+  of_first_sentence : (Holds : Statement) → ((is : Sentence encoding instruction) → Holds strict encoding is.reading is.whole) →
+      OfFirstSentence strict bytes Holds
+  of_first_sentence Holds each = record {
     instruction = instruction;
     accepted = beginning.accepted;
     of_it = λ s rest a is begins.
-        let other : IsAccepted (rows_of packed) strict bytes a (length s) = record { sentence = s; rest = rest; begins = begins; long = refl; is = is } in
-        let same = halves s rest encoding beginning.rest (sym begins ∙ beginning.begins)
-        ((only bytes (Ok a) (length s) other).1 ∙ sym (beginning.long ∙ beginning.counted)) in
-        let answer : a ≡ instruction = cc ((only bytes (Ok a) (length s) other).0, beginning.accepted) in
-        let of_answer : (is : Sentence strict encoding a) → Holds strict encoding is.reading is.whole =
-        subst (λ i. (is : Sentence strict encoding i) → Holds strict encoding is.reading is.whole) (sym answer) (each strict) in
-        subst (λ l. (is : Sentence strict l a) → Holds strict l is.reading is.whole) (sym same.0) of_answer is;
+        let same = beginning.alone s rest a is begins in
+        let of_answer : (is : Sentence encoding a) → Holds strict encoding is.reading is.whole =
+        subst (λ i. (is : Sentence encoding i) → Holds strict encoding is.reading is.whole) (sym same.1) each in
+        subst (λ l. (is : Sentence l a) → Holds strict l is.reading is.whole) (sym same.0) of_answer is;
   }
 
-  module _ {A : Type 0} (items : A → List ℕ) where
-    answered : Only strict → (result : Result A TightenError) →
-        ((strict : Bool) (is : Sentence strict encoding instruction) →
-        MatchResult result (λ t. IsTightened strict encoding is.reading is.whole (items t))
-        (λ error. HasNoRelative strict encoding is.reading is.whole error)) →
-        MatchResult result (λ t. OfFirstSentence strict bytes (λ strict s a v. IsTightened strict s a v (items t))) (λ error. IsNotTightened strict bytes error)
-    answered only (Ok t) each = of_first_sentence only _ each
-    answered only (Err NoMemoryForm) each = of_first_sentence only _ each
-    answered only (Err IpRelative) each = of_first_sentence only _ each
-    answered only (Err (Refused error)) each = absurd (each strict beginning.is)
+  not_tightened : (error : TightenError) → ((is : Sentence encoding instruction) → HasNoRelative strict encoding is.reading is.whole error) →
+      IsNotTightened strict bytes error
+  not_tightened NoMemoryForm each = of_first_sentence _ each
+  not_tightened IpRelative each = of_first_sentence _ each
+  not_tightened (Refused error) each = absurd (each beginning.is)
 
-    measured : (result : Result A TightenError) → ((strict : Bool) → Sentence strict encoding instruction →
-        MatchResult result (λ t. length (items t) ≡ least_length strict encoding) (λ _. least_length strict encoding ≡ length encoding)) →
-        MatchResult result (λ t. length (items t) ≡ shortest_length strict bytes) (λ _. HasShortestLength strict bytes)
-    measured (Ok t) each = each strict beginning.is ∙ sym (least_beginning beginning)
-    measured (Err error) each = λ i e. cc (least_beginning beginning, each strict beginning.is, beginning.long, beginning.accepted, e)
+  bytes_in : ((i : ℕ) → Fits w8 (slice_index bytes i)) → Bytes encoding
+  bytes_in small = bytes_before encoding beginning.rest (subst Bytes beginning.begins (bytes_at bytes small))
 
-pub tightened-requires : goal.tightened-requires
-tightened-requires c =
-    let strict = c.args.decoder.now.strict in
-    let bytes = c.args.bytes.now in
-    let beginning = beginning_of strict bytes (sym c.in-Ok.ensures.value) (c.answer_is.ensures.there strict bytes)
-    (c.lengths.ensures.counted strict bytes) (c.to_const.ensures ∙ ap (λ d. d.amount) c.len.ensures) c.split_at_most.ensures.first in
-    record { strict = strict; is = beginning.is }
+module _ {strict : Bool} {s : List ℕ} {a : Instruction} (is : IsSentence (rows_of packed) strict s a) {found : Addressed}
+    (h : IsAddressed strict s is.reading is.whole found) (all : Bytes s) where
+  fit : IsOfBytes found.raw
+  fit = raw_of_bytes is.whole found.raw h.read all
 
-pub returns : goal.returns
-returns c =
-    let strict = c.args.decoder.now.strict in
-    let bytes = c.args.bytes.now in
-    let beginning = beginning_of strict bytes (sym c.in-Ok.ensures.value) (c.answer_is.ensures.there strict bytes)
-    (c.lengths.ensures.counted strict bytes) (c.to_const.ensures ∙ ap (λ d. d.amount) c.len.ensures) c.split_at_most.ensures.first in
+  spelled : {l : PartLists} {raw : Raw} → raw ≡ shortest found.raw → l ≡ respelled (lists_of found.parts) raw → joined l ≡ Bytes' is.whole h.read fit
+  spelled e g = cc (e, g, respelled_is is.whole h.read (lists_of found.parts) h.parts fit)
+
+pub addressed_in-requires : goal.addressed_in-requires
+addressed_in-requires c = record { strict = c.args.decoder.now.strict; is = c.encoding_of.ensures.is }
+
+in_err : (c : goal.After-from_residual) → c.from_residual.result ≡ Err c.in_err-found.field-0.0
+in_err c = grind arith
+
+pub returns-in_err-found-clause-shortest : goal.returns-in_err-found-clause-shortest
+returns-in_err-found-clause-shortest c =
+    rw (in_err c) (not_tightened c.encoding_of.ensures c.in_err-found.field-0.0 (c.in_err-found.ensures c.args.decoder.now.strict))
+
+pub returns-in_err-found-clause-least : goal.returns-in_err-found-clause-least
+returns-in_err-found-clause-least c =
+    let first = c.encoding_of.ensures in
+    let kept = keeps first.is.whole c.in_err-found.field-0.0 (c.in_err-found.ensures c.args.decoder.now.strict first.is) in
+    rw (in_err c) (λ i e. cc (least_beginning first, kept, first.long, first.accepted, e))
+
+pub respelled-requires : goal.respelled-requires
+respelled-requires c = lengths_of (c.in_ok-found.ensures c.args.decoder.now.strict c.encoding_of.ensures.is).parts c.encoding_of.ensures.is.short
+
+pub unwrap-requires : goal.unwrap-requires
+unwrap-requires c =
+    let is = c.encoding_of.ensures.is in
+    let h = c.in_ok-found.ensures c.args.decoder.now.strict is in
+    let all = bytes_in c.encoding_of.ensures c.type_inv.bytes in
+    let short = fits is.whole h.read (fit is h all) _ (spelled is h all c.shortest.ensures c.respelled.ensures) is.short h.form in
+    grind (arith, nat_tests, c.joined.ensures.short, short)
+
+written : (c : goal.After-unwrap) → c.unwrap.result.items ≡ joined (lists_in c.respelled.result)
+written c = rw c.unwrap.ensures at c.joined.ensures.bytes
+
+pub returns-clause-shortest : goal.returns-clause-shortest
+returns-clause-shortest c = of_first_sentence c.encoding_of.ensures _ (λ is.
+    let h = c.in_ok-found.ensures c.args.decoder.now.strict is in
+    let all = bytes_in c.encoding_of.ensures c.type_inv.bytes in
     record {
-      shortest = answered beginning (λ t. t.items) (c.answer_is.ensures.only strict) c.tightened.result c.tightened.ensures.shortest;
-      least = measured beginning (λ t. t.items) c.tightened.result c.tightened.ensures.least;
-    }
+      form = operand_form is.whole c.in_ok-found.found.raw h.read false h.form;
+      shortest = shortest_relative is.whole h.read (fit is h all) c.unwrap.result.items
+          (written c ∙ spelled is h all c.shortest.ensures c.respelled.ensures) is.lock is.short h.form;
+    })
+
+pub returns-clause-least : goal.returns-clause-least
+returns-clause-least c =
+    let is = c.encoding_of.ensures.is in
+    let h = c.in_ok-found.ensures c.args.decoder.now.strict is in
+    let all = bytes_in c.encoding_of.ensures c.type_inv.bytes in
+    least_of_shortest is.whole h.read (fit is h all) c.unwrap.result.items (written c ∙ spelled is h all c.shortest.ensures c.respelled.ensures) h.form
+    ∙ sym (least_beginning c.encoding_of.ensures)

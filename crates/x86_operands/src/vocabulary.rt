@@ -21,7 +21,7 @@ pub enum PointerSlot {
     DerefRdi,
 }
 
-/// An operand of a row, of a template or of a plan, in the letters of the Intel SDM, volume 2, appendix A.2.
+/// An operand of a row, of a template or of an instance, in the letters of the Intel SDM, volume 2, appendix A.2.
 #[derive(Clone, Copy, Drop)]
 pub enum OperandEncoding {
     /// The register of reg, with R.
@@ -80,9 +80,9 @@ pub enum OperandEncoding {
     Address32,
     /// An address of 8 bytes.
     Address64,
-    /// The register of the opcode byte, with B: its slot, its width, and in a plan its number.
+    /// The register of the opcode byte, with B: its slot, its width, and in an instance its number.
     Z(RegisterSlot, Width, u8),
-    /// An immediate of v, at most 4 bytes. It is none of a plan, as those below.
+    /// An immediate of v, at most 4 bytes. It is none of an instance, as those below.
     Iv,
     /// An immediate of v, with its whole width.
     Ivq,

@@ -1,4 +1,4 @@
--- What a plan takes, and where it ends: its pieces, one after another, and its opcode or its refusal.
+-- What an instance takes, and where it ends: its pieces, one after another, and its opcode or its refusal.
 use Rattle.std.proofs.Common.{◌≡◌, ℕ, Bool, true, false, if◌then◌else◌, List, [], ◌∷◌, ◌++◌, length, take, drop, Option, Some, None, Result, Ok, Err}
 use Rattle.std.proofs.Common.{refl, sym, ap, ap₂, subst, ◌∙◌, inl, inr, append_assoc, length-append, length-take, length-drop, ◌≢◌, ◌⊎◌, arith}
 use Rattle.std.proofs.Math.Seq.{take-append_seam, drop-append_seam}
@@ -13,9 +13,9 @@ use Rattle.x86_fields.proofs.EndLemmas.{EndsWell, IsEmpty, IsFinal, Only, ends_p
 use Rattle.x86_fields.proofs.EndLemmas.{halts_same, over, final_ok, final_other, bind_assoc, IsByte, ends_byte, ends_refuse, final_err}
 use Rattle.x86_fields.proofs.PieceLemmas.{takes_map, ends_raw, takes_raw, halts_raw, halts_piece, raw_long, none_there, one_there, more_missing, more_there}
 use Rattle.x86_fields.proofs.PieceLemmas.{FirstPiece, nothing, piece, first_piece, between_nil}
-use Rattle.x86_operands.specs.Plans.{Plan, is_refusal}
-use Rattle.x86_operands.specs.PlanSteps.{address_step, changed, row_ended, error_of, known_operand, leading_read, other_read, put_in, read_opcode, read_plan}
-use Rattle.x86_operands.specs.PlanSteps.{reading_with, rm_read, sized, suffix_opcode}
+use Rattle.x86_operands.specs.Records.{Instance, is_refusal, order_of}
+use Rattle.x86_operands.specs.RowSteps.{address_step, changed, row_ended, error_of, known_operand, leading_read, other_read, put_in, read_opcode, read_instance}
+use Rattle.x86_operands.specs.RowSteps.{reading_with, rm_read, sized, suffix_opcode}
 use Rattle.x86_operands.specs.Asks.{part_width}
 use Rattle.x86_operands.specs.Templates.{has_address}
 use Rattle.x86_operands.specs.Pieces.{SpellsMemory, SpellsPieces, SpellsTail, RefusesTail, after_pieces, no_name, suffix_width}
@@ -122,69 +122,70 @@ module _ (at : Position) (p : Prefixes) (m : ℕ) where
 
 -- ---- the pieces in order
 
-abbrev pub PlanYields : Plan → Prefixes → ℕ → List ℕ → Result Reading DecodeError → Type 0
-PlanYields plan p m q (Ok reading) = SpellsTail plan p m q reading
-PlanYields plan p m q (Err e) = Faults (RefusesTail plan p m q) e
+abbrev pub InstanceYields : Instance → Prefixes → ℕ → List ℕ → Result Reading DecodeError → Type 0
+InstanceYields instance p m q (Ok reading) = SpellsTail instance p m q reading
+InstanceYields instance p m q (Err e) = Faults (RefusesTail instance p m q) e
 
-abbrev pub PlanBetween : Plan → ℕ → List ℕ → Type 0
-PlanBetween plan m q = EndsBetween (tail_widths plan m q) q
+abbrev pub InstanceBetween : Instance → ℕ → List ℕ → Type 0
+InstanceBetween instance m q = EndsBetween (tail_widths instance m q) q
 
-module _ (plan : Plan) (p : Prefixes) (m : ℕ) where
+module _ (instance : Instance) (p : Prefixes) (m : ℕ) where
   abbrev v : Verdict
-  v = plan.verdict
+  v = instance.verdict
 
   abbrev at : Position
-  at = plan.order.rm
+  at = (order_of instance).rm
 
   abbrev Yields : List ℕ → Result Reading DecodeError → Type 0
-  Yields q r = PlanYields plan p m q r
+  Yields q r = InstanceYields instance p m q r
 
   abbrev Between : List ℕ → Type 0
-  Between q = PlanBetween plan m q
+  Between q = InstanceBetween instance m q
 
   -- how long the immediates are, and what follows SIB and displacement
   abbrev last_width : ℕ
-  last_width = part_width plan.order.last plan.last
+  last_width = part_width (order_of instance).last instance.last
 
   abbrev extra_width : ℕ
-  extra_width = part_width plan.order.extra plan.extra
+  extra_width = part_width (order_of instance).extra instance.extra
 
   abbrev widths : List ℕ
   widths = last_width ∷ extra_width ∷ suffix_width v ∷ []
 
   -- the operands of rm and reg, and all of them
   abbrev leading : Option Raw → Operands
-  leading memory = put_in plan.order.reg (known_operand plan.reg p m None)
-      (put_in at (known_operand plan.rm p m memory) (sized plan.order.count plan.size))
+  leading memory = put_in (order_of instance).reg (known_operand instance.reg p m None)
+      (put_in at (known_operand instance.rm p m memory) (sized (order_of instance).count instance.size))
 
   abbrev written : Option Raw → List ℕ → List ℕ → Operands
-  written memory last extra = put_in plan.order.extra (operand_from plan.extra p m extra)
-      (put_in plan.order.last (operand_from plan.last p m last) (leading memory))
+  written memory last extra = put_in (order_of instance).extra (operand_from instance.extra p m extra)
+      (put_in (order_of instance).last (operand_from instance.last p m last) (leading memory))
 
   abbrev leading_step : Step Operands
-  leading_step = leading_read plan.order plan.reg plan.rm p m (sized plan.order.count plan.size)
+  leading_step = leading_read (order_of instance) instance.reg instance.rm p m (sized (order_of instance).count instance.size)
 
   abbrev last_step : Operands → Step Operands
-  last_step = other_read plan.order.last plan.last p m
+  last_step = other_read (order_of instance).last instance.last p m
 
   abbrev extra_step : Operands → Step Operands
-  extra_step = other_read plan.order.extra plan.extra p m
+  extra_step = other_read (order_of instance).extra instance.extra p m
 
   abbrev after_last : Operands → Step Reading
-  after_last x = extra_step x >>= row_ended plan p
+  after_last x = extra_step x >>= row_ended instance p
 
   abbrev after_leading : Operands → Step Reading
   after_leading x = last_step x >>= after_last
 
   in_two : (memory : Option Raw) (last extra : List ℕ) → length last ≡ last_width →
-      written memory last extra ≡ operands_from plan p m memory (last ++ extra)
+      written memory last extra ≡ operands_from instance p m memory (last ++ extra)
   in_two memory last extra e =
       let parts : (take last_width (last ++ extra) ≡ last) × (drop last_width (last ++ extra) ≡ extra) =
       (cc (take-append_seam last extra), cc (drop-append_seam last extra)) in
       ap₂ (λ a b. written memory a b) (sym parts.0) (sym parts.1)
 
   abbrev made : (memory : Option Raw) (address last extra suffix tail : List ℕ) → tail ≡ address ++ (last ++ (extra ++ suffix)) →
-      SpellsMemory at p m address memory → length last ≡ last_width → length extra ≡ extra_width → length suffix ≡ suffix_width v → SpellsPieces plan p m tail
+      SpellsMemory at p m address memory → length last ≡ last_width → length extra ≡ extra_width → length suffix ≡ suffix_width v →
+      SpellsPieces instance p m tail
   made memory address last extra suffix tail e h l x w = record {
     memory = memory;
     address = address;
@@ -196,7 +197,8 @@ module _ (plan : Plan) (p : Prefixes) (m : ℕ) where
     suffix_length = w;
   }
 
-  refuses : {tail : List ℕ} {fault : Fault} (pieces : SpellsPieces plan p m tail) → IsEnd v plan.opcode pieces.suffix fault → RefusesTail plan p m tail fault
+  refuses : {tail : List ℕ} {fault : Fault} (pieces : SpellsPieces instance p m tail) → IsEnd v instance.opcode pieces.suffix fault →
+      RefusesTail instance p m tail fault
   refuses pieces (inl is) = after_pieces is pieces
   refuses pieces (inr is) = no_name pieces is.0 is.1 is.2
 
@@ -205,20 +207,23 @@ module _ (plan : Plan) (p : Prefixes) (m : ℕ) where
   IsLeading q x = (memory : Option Raw) × SpellsMemory at p m q memory × (x ≡ leading memory)
 
   abbrev IsOfRm : List ℕ → Operands → Type 0
-  IsOfRm q x = (memory : Option Raw) × SpellsMemory at p m q memory × (x ≡ put_in at (known_operand plan.rm p m memory) (sized plan.order.count plan.size))
+  IsOfRm q x = (memory : Option Raw) × SpellsMemory at p m q memory
+      × (x ≡ put_in at (known_operand instance.rm p m memory) (sized (order_of instance).count instance.size))
 
   ends_leading : EndsWell (Only IsLeading) (λ q. EndsBetween (memory_widths at m q) q) leading_step
   ends_leading =
       ends_map IsOfRm (λ q. EndsBetween (memory_widths at m q) q) IsLeading
-      (rm_read at plan.rm p m (sized plan.order.count plan.size)) (put_in plan.order.reg (known_operand plan.reg p m None))
+      (rm_read at instance.rm p m (sized (order_of instance).count instance.size)) (put_in (order_of instance).reg (known_operand instance.reg p m None))
       (ends_map (SpellsMemory at p m) (λ q. EndsBetween (memory_widths at m q) q) IsOfRm (address_step at p m)
-      (λ memory. put_in at (known_operand plan.rm p m memory) (sized plan.order.count plan.size)) (ends_memory at p m) (λ q memory h. (memory, h, refl)))
-      (λ q x h. (h.0, h.1, ap (put_in plan.order.reg (known_operand plan.reg p m None)) h.2))
+      (λ memory. put_in at (known_operand instance.rm p m memory) (sized (order_of instance).count instance.size))
+      (ends_memory at p m) (λ q memory h. (memory, h, refl)))
+      (λ q x h. (h.0, h.1, ap (put_in (order_of instance).reg (known_operand instance.reg p m None)) h.2))
 
   takes_leading : (q : List ℕ) (memory : Option Raw) → SpellsMemory at p m q memory → Takes leading_step q (Ok (leading memory))
   takes_leading q memory h =
-      takes_map (rm_read at plan.rm p m (sized plan.order.count plan.size)) (put_in plan.order.reg (known_operand plan.reg p m None)) q _
-      (takes_map (address_step at p m) (λ memory. put_in at (known_operand plan.rm p m memory) (sized plan.order.count plan.size)) q memory
+      takes_map (rm_read at instance.rm p m (sized (order_of instance).count instance.size))
+      (put_in (order_of instance).reg (known_operand instance.reg p m None)) q _
+      (takes_map (address_step at p m) (λ memory. put_in at (known_operand instance.rm p m memory) (sized (order_of instance).count instance.size)) q memory
       (takes_memory at p m q memory h))
 
   module _ (memory : Option Raw) (address : List ℕ) (h : SpellsMemory at p m address memory) where
@@ -227,80 +232,82 @@ module _ (plan : Plan) (p : Prefixes) (m : ℕ) where
 
     -- after the operands
     ends_ended : (last extra : List ℕ) (x : Operands) → x ≡ written memory last extra → length last ≡ last_width → length extra ≡ extra_width →
-        EndsWell (λ l r. Yields (address ++ (last ++ (extra ++ l))) r) (λ l. Between (address ++ (last ++ (extra ++ l)))) (row_ended plan p x)
+        EndsWell (λ l r. Yields (address ++ (last ++ (extra ++ l))) r) (λ l. Between (address ++ (last ++ (extra ++ l)))) (row_ended instance p x)
     ends_ended last extra x is l e =
-        ends_bind (IsNamed v plan.opcode) IsEmpty (λ q r. Yields (address ++ (last ++ (extra ++ q))) r)
-        (λ q. Between (address ++ (last ++ (extra ++ q)))) (read_opcode v plan.opcode)
-        (λ opcode. pure (reading_with opcode (changed plan.change p) x)) (ends_opcode v plan.opcode)
+        ends_bind (IsNamed v instance.opcode) IsEmpty (λ q r. Yields (address ++ (last ++ (extra ++ q))) r)
+        (λ q. Between (address ++ (last ++ (extra ++ q)))) (read_opcode v instance.opcode)
+        (λ opcode. pure (reading_with opcode (changed instance.change p) x)) (ends_opcode v instance.opcode)
         (λ q none. past_address (last ++ (extra ++ q)) (one_there last_width (extra_width ∷ suffix_width v ∷ []) last (extra ++ q) l
         (one_there extra_width (suffix_width v ∷ []) extra q e (none_there (suffix_width v ∷ []) q none))))
         (λ q error k. (k.1.0, k.1.1, refuses (made memory address last extra q (address ++ (last ++ (extra ++ q))) refl h l e k.0) k.1.2))
         (λ q opcode k.
         ends_pure (λ f r. Yields (address ++ (last ++ (extra ++ (q ++ f)))) r) (λ f. Between (address ++ (last ++ (extra ++ (q ++ f)))))
-        (reading_with opcode (changed plan.change p) x)
+        (reading_with opcode (changed instance.change p) x)
         (record {
           pieces = made memory address last extra q (address ++ (last ++ (extra ++ (q ++ []))))
               (ap (λ f. address ++ (last ++ (extra ++ f))) (append-nil q)) h l e k.0;
           opcode = opcode;
           named = k.1;
           accepted = k.2;
-          yields = ap (reading_with opcode (changed plan.change p)) (is ∙ in_two memory last extra l);
+          yields = ap (reading_with opcode (changed instance.change p)) (is ∙ in_two memory last extra l);
         }))
 
     -- after the memory operand
     ends_after : (x : Operands) → x ≡ leading memory →
         EndsWell (λ l r. Yields (address ++ l) r) (λ l. Between (address ++ l)) (after_leading x)
     ends_after x is =
-        ends_then (IsPut p m plan.order.last plan.last x) IsEmpty (λ l r. Yields (address ++ l) r) (λ l. Between (address ++ l))
-        (last_step x) after_last (reads_other p m plan.order.last plan.last x).0
+        ends_then (IsPut p m (order_of instance).last instance.last x) IsEmpty (λ l r. Yields (address ++ l) r) (λ l. Between (address ++ l))
+        (last_step x) after_last (reads_other p m (order_of instance).last instance.last x).0
         (λ q none. past_address q (none_there widths q none))
-        (λ last y g. ends_then (IsPut p m plan.order.extra plan.extra y) IsEmpty (λ l r. Yields (address ++ (last ++ l)) r)
-        (λ l. Between (address ++ (last ++ l))) (extra_step y) (row_ended plan p) (reads_other p m plan.order.extra plan.extra y).0
+        (λ last y g. ends_then (IsPut p m (order_of instance).extra instance.extra y) IsEmpty (λ l r. Yields (address ++ (last ++ l)) r)
+        (λ l. Between (address ++ (last ++ l))) (extra_step y) (row_ended instance p) (reads_other p m (order_of instance).extra instance.extra y).0
         (λ q none. past_address (last ++ q) (one_there last_width (extra_width ∷ suffix_width v ∷ []) last q g.1
         (none_there (extra_width ∷ suffix_width v ∷ []) q none)))
         (λ extra z k. ends_ended last extra z
-        (k.0 ∙ ap (put_in plan.order.extra (operand_from plan.extra p m extra))
-        (g.0 ∙ ap (put_in plan.order.last (operand_from plan.last p m last)) is)) g.1 k.1))
+        (k.0 ∙ ap (put_in (order_of instance).extra (operand_from instance.extra p m extra))
+        (g.0 ∙ ap (put_in (order_of instance).last (operand_from instance.last p m last)) is)) g.1 k.1))
 
-  pub ends_plan : EndsWell Yields Between (read_plan plan p m)
-  unfolding read_plan
-  ends_plan =
+  pub ends_instance : EndsWell Yields Between (read_instance instance p m)
+  unfolding read_instance
+  ends_instance =
       ends_then IsLeading (λ q. EndsBetween (memory_widths at m q) q) Yields Between leading_step after_leading ends_leading
       (λ q k. more_missing (memory_widths at m q) widths q k) (λ q x h. ends_after h.0 q h.1 x h.2)
 
   -- ---- the pieces are taken
 
-  takes_pieces : (tail : List ℕ) (r : Result Reading DecodeError) (s : SpellsPieces plan p m tail) →
-      Takes (row_ended plan p (operands_from plan p m s.memory s.immediates)) s.suffix r → Takes (read_plan plan p m) tail r
-  unfolding read_plan
+  takes_pieces : (tail : List ℕ) (r : Result Reading DecodeError) (s : SpellsPieces instance p m tail) →
+      Takes (row_ended instance p (operands_from instance p m s.memory s.immediates)) s.suffix r → Takes (read_instance instance p m) tail r
+  unfolding read_instance
   takes_pieces tail r s t =
       let last : List ℕ = take last_width s.immediates in
       let extra : List ℕ = drop last_width s.immediates in
       let last_long : length last ≡ last_width = length-take last_width s.immediates ∙ omega (arith, s.immediates_length) in
       let extra_long : length extra ≡ extra_width = length-drop last_width s.immediates ∙ omega (arith, s.immediates_length) in
-      subst (λ l. Takes (read_plan plan p m) l r)
+      subst (λ l. Takes (read_instance instance p m) l r)
       (ap (λ l. s.address ++ l) (sym (append_assoc last extra s.suffix) ∙ ap (λ l. l ++ s.suffix) (take-append-drop last_width s.immediates)) ∙ sym s.spelled)
       (takes_bind leading_step after_leading s.address (last ++ (extra ++ s.suffix)) (leading s.memory) r
       (takes_leading s.address s.memory s.address_spelled)
       (takes_bind (last_step (leading s.memory)) after_last last (extra ++ s.suffix) _ r
-      ((reads_other p m plan.order.last plan.last (leading s.memory)).1 last last_long)
-      (takes_bind (extra_step _) (row_ended plan p) extra s.suffix _ r ((reads_other p m plan.order.extra plan.extra _).1 extra extra_long) t)))
+      ((reads_other p m (order_of instance).last instance.last (leading s.memory)).1 last last_long)
+      (takes_bind (extra_step _) (row_ended instance p) extra s.suffix _ r
+      ((reads_other p m (order_of instance).extra instance.extra _).1 extra extra_long) t)))
 
-  pub takes_tail : (tail : List ℕ) (reading : Reading) → SpellsTail plan p m tail reading → Takes (read_plan plan p m) tail (Ok reading)
+  pub takes_tail : (tail : List ℕ) (reading : Reading) → SpellsTail instance p m tail reading → Takes (read_instance instance p m) tail (Ok reading)
   takes_tail tail reading s =
-      let make : ℕ → Reading = λ opcode. reading_from plan p m opcode s.pieces.memory s.pieces.immediates in
-      subst (λ x. Takes (read_plan plan p m) tail (Ok x)) (sym s.yields)
-      (takes_pieces tail (Ok (make s.opcode)) s.pieces (takes_map (read_opcode v plan.opcode) make s.pieces.suffix s.opcode
-      (takes_opcode v plan.opcode s.opcode s.pieces.suffix s.pieces.suffix_length s.named s.accepted)))
+      let make : ℕ → Reading = λ opcode. reading_from instance p m opcode s.pieces.memory s.pieces.immediates in
+      subst (λ x. Takes (read_instance instance p m) tail (Ok x)) (sym s.yields)
+      (takes_pieces tail (Ok (make s.opcode)) s.pieces (takes_map (read_opcode v instance.opcode) make s.pieces.suffix s.opcode
+      (takes_opcode v instance.opcode s.opcode s.pieces.suffix s.pieces.suffix_length s.named s.accepted)))
 
-  takes_refusal : (fault : Fault) (tail : List ℕ) (s : SpellsPieces plan p m tail) → IsEnd v plan.opcode s.suffix fault →
-      Takes (read_plan plan p m) tail (Err (error_of fault))
+  takes_refusal : (fault : Fault) (tail : List ℕ) (s : SpellsPieces instance p m tail) → IsEnd v instance.opcode s.suffix fault →
+      Takes (read_instance instance p m) tail (Err (error_of fault))
   takes_refusal fault tail s is =
       takes_pieces tail (Err (error_of fault)) s
-      (takes_err (read_opcode v plan.opcode) (λ opcode. pure (reading_from plan p m opcode s.memory s.immediates)) s.suffix (error_of fault)
-      (takes_end v plan.opcode s.suffix fault s.suffix_length is))
+      (takes_err (read_opcode v instance.opcode) (λ opcode. pure (reading_from instance p m opcode s.memory s.immediates)) s.suffix (error_of fault)
+      (takes_end v instance.opcode s.suffix fault s.suffix_length is))
 
-  pub takes_tail_refused : (tail : List ℕ) (fault : Fault) → RefusesTail plan p m tail fault → Takes (read_plan plan p m) tail (Err (error_of fault))
+  pub takes_tail_refused : (tail : List ℕ) (fault : Fault) → RefusesTail instance p m tail fault →
+      Takes (read_instance instance p m) tail (Err (error_of fault))
   takes_tail_refused tail fault (after_pieces is s) = takes_refusal fault tail s (inl is)
   takes_tail_refused tail fault (no_name s is none same) = takes_refusal fault tail s (inr (is, none, same))
 
@@ -308,35 +315,35 @@ module _ (plan : Plan) (p : Prefixes) (m : ℕ) where
 
   module _ (x : Operands) where
     abbrev make : ℕ → Reading
-    make opcode = reading_with opcode (changed plan.change p) x
+    make opcode = reading_with opcode (changed instance.change p) x
 
-    ends_named : EndsWell (λ q r. Unit {0}) (λ q. Unit {0}) (row_ended plan p x)
-    ends_named = ends_bind (IsNamed v plan.opcode) IsEmpty (λ q r. Unit {0}) (λ q. Unit {0}) (read_opcode v plan.opcode)
-        (λ opcode. pure (make opcode)) (ends_opcode v plan.opcode) (λ q h. tt) (λ q e h. tt)
+    ends_named : EndsWell (λ q r. Unit {0}) (λ q. Unit {0}) (row_ended instance p x)
+    ends_named = ends_bind (IsNamed v instance.opcode) IsEmpty (λ q r. Unit {0}) (λ q. Unit {0}) (read_opcode v instance.opcode)
+        (λ opcode. pure (make opcode)) (ends_opcode v instance.opcode) (λ q h. tt) (λ q e h. tt)
         (λ q opcode h. ends_pure (λ q r. Unit {0}) (λ q. Unit {0}) (make opcode) tt)
 
-    resolved : (q : List ℕ) → (r : Result ℕ DecodeError) × Takes (read_opcode v plan.opcode) q r × IsFinal r → Halts (row_ended plan p x) q
-    resolved q (Ok o, t, d) = over q [] (Ok (make o)) (sym (append-nil q)) (takes_map (read_opcode v plan.opcode) make q o t) (final_ok (make o))
+    resolved : (q : List ℕ) → (r : Result ℕ DecodeError) × Takes (read_opcode v instance.opcode) q r × IsFinal r → Halts (row_ended instance p x) q
+    resolved q (Ok o, t, d) = over q [] (Ok (make o)) (sym (append-nil q)) (takes_map (read_opcode v instance.opcode) make q o t) (final_ok (make o))
     resolved q (Err e, t, d) =
-        over q [] (Err e) (sym (append-nil q)) (takes_err (read_opcode v plan.opcode) (λ opcode. pure (make opcode)) q e t) (final_other e d)
+        over q [] (Err e) (sym (append-nil q)) (takes_err (read_opcode v instance.opcode) (λ opcode. pure (make opcode)) q e t) (final_other e d)
 
-    halts_ended : (q : List ℕ) → EndsBetween (suffix_width v ∷ []) q → Halts (row_ended plan p x) q
+    halts_ended : (q : List ℕ) → EndsBetween (suffix_width v ∷ []) q → Halts (row_ended instance p x) q
     halts_ended q k = by (first_piece (suffix_width v) [] q k)
       where
-        by : FirstPiece (suffix_width v) [] q → Halts (row_ended plan p x) q
-        by (nothing none) = subst (Halts (row_ended plan p x)) (sym none) (halts_empty (row_ended plan p x) ends_named)
+        by : FirstPiece (suffix_width v) [] q → Halts (row_ended instance p x) q
+        by (nothing none) = subst (Halts (row_ended instance p x)) (sym none) (halts_empty (row_ended instance p x) ends_named)
         by (piece l rest h long k) =
             let whole : q ≡ l = h ∙ ap (λ x. l ++ x) (between_nil rest k) ∙ append-nil l in
-            resolved q (answered v plan.opcode q (ap length whole ∙ long))
+            resolved q (answered v instance.opcode q (ap length whole ∙ long))
 
   halts_after : (x : Operands) (q : List ℕ) → EndsBetween widths q → Halts (after_leading x) q
   halts_after x q k =
-      let one = reads_other p m plan.order.last plan.last x in
+      let one = reads_other p m (order_of instance).last instance.last x in
       halts_piece (last_step x) after_last last_width (extra_width ∷ suffix_width v ∷ []) q
-      (λ l. put_in plan.order.last (operand_from plan.last p m l) x) one.0 one.1
-      (λ y rest b. let two = reads_other p m plan.order.extra plan.extra y in
-      halts_piece (extra_step y) (row_ended plan p) extra_width (suffix_width v ∷ []) rest
-      (λ l. put_in plan.order.extra (operand_from plan.extra p m l) y) two.0 two.1 (λ z l c. halts_ended z l c) b) k
+      (λ l. put_in (order_of instance).last (operand_from instance.last p m l) x) one.0 one.1
+      (λ y rest b. let two = reads_other p m (order_of instance).extra instance.extra y in
+      halts_piece (extra_step y) (row_ended instance p) extra_width (suffix_width v ∷ []) rest
+      (λ l. put_in (order_of instance).extra (operand_from instance.extra p m l) y) two.0 two.1 (λ z l c. halts_ended z l c) b) k
 
   abbrev after_memory : Option Raw → Step Reading
   after_memory memory = after_leading (leading memory)
@@ -348,12 +355,12 @@ module _ (plan : Plan) (p : Prefixes) (m : ℕ) where
       (halts_raw p m (λ raw. after_memory (Some raw)) widths q (λ raw rest b. halts_after (leading (Some raw)) rest b) k)
   halts_memory false q k = halts_bind (pure None) after_memory [] q None (takes_pure (Ok None)) (halts_after (leading None) q k)
 
-  pub halts_plan : (q : List ℕ) → Between q → Halts (read_plan plan p m) q
-  unfolding read_plan
-  halts_plan q k =
-      let of_rm : Operands → Operands = put_in plan.order.reg (known_operand plan.reg p m None) in
+  pub halts_instance : (q : List ℕ) → Between q → Halts (read_instance instance p m) q
+  unfolding read_instance
+  halts_instance q k =
+      let of_rm : Operands → Operands = put_in (order_of instance).reg (known_operand instance.reg p m None) in
       halts_same (address_step at p m >>= after_memory) (leading_step >>= after_leading) q
-      (λ s. bind_assoc (rm_read at plan.rm p m (sized plan.order.count plan.size)) (λ x. pure (of_rm x)) after_leading s
-      ∙ bind_assoc (address_step at p m) (λ memory. pure (put_in at (known_operand plan.rm p m memory) (sized plan.order.count plan.size)))
+      (λ s. bind_assoc (rm_read at instance.rm p m (sized (order_of instance).count instance.size)) (λ x. pure (of_rm x)) after_leading s
+      ∙ bind_assoc (address_step at p m) (λ memory. pure (put_in at (known_operand instance.rm p m memory) (sized (order_of instance).count instance.size)))
       (λ x. after_leading (of_rm x)) s)
       (halts_memory (has_address at m) q k)

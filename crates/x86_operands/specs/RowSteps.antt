@@ -10,17 +10,17 @@ use Rattle.x86_operands.specs.Vocabulary.{ClearsOperandSize, SetsEs, ModrmUse, A
 use Rattle.x86_operands.specs.Vocabulary.{reg_spec, reg_field, rm_field, absent_modrm, as_register, register_of, class_of}
 use Rattle.x86_operands.specs.Vocabulary.{address_size}
 use Rattle.x86_regs.specs.declared.RegisterClass.TheVariants as class
-use Rattle.x86_operands.specs.declared.plans.OperandEncoding.TheVariants as encoding
+use Rattle.x86_operands.specs.declared.vocabulary.OperandEncoding.TheVariants as encoding
 use Rattle.x86_fields.specs.declared.errors.DecodeError.TheVariants.{InvalidOpcode, InvalidOperand, IncompleteDecoder}
 use Rattle.x86_fields.specs.Prefixes.{without_operand_size, with_es}
 use Rattle.x86_fields.specs.Raw.{read_raw}
 use Rattle.x86_fields.specs.Steps.{Step, pure, refuse, ◌>>=◌, next_byte, number_step}
 use Rattle.x86_operands.specs.declared.operands.Slot.TheVariants as slots
 use Rattle.x86_operands.specs.declared.operands.Operand.TheVariants as operands
-use Rattle.x86_operands.specs.declared.plans.RegisterSlot.TheVariants as reg_slot
-use Rattle.x86_operands.specs.declared.plans.PointerSlot.TheVariants as pointer
+use Rattle.x86_operands.specs.declared.vocabulary.RegisterSlot.TheVariants as reg_slot
+use Rattle.x86_operands.specs.declared.vocabulary.PointerSlot.TheVariants as pointer
 use Rattle.x86_operands.specs.Operands.{shape}
-use Rattle.x86_operands.specs.Plans.{Plan, RowRecord, reg_number, rm_number}
+use Rattle.x86_operands.specs.Records.{Instance, RowRecord, reg_number, rm_number, order_of}
 use Rattle.x86_operands.specs.Templates.{has_address, index_of_position, somewhere}
 use Rattle.std.specs.Map.{lookup}
 use Rattle.x86_opcodes.specs.Names.{PI2FW, PI2FD, PF2IW, PF2ID, PFNACC, PFPNACC, PFCMPGE, PFMIN, PFRCP, PFRSQRT, PFSUB, PFADD, PFCMPGT}
@@ -86,7 +86,7 @@ immediate_read s = None
 abbrev pub pointer_class : Prefixes → RegisterClass
 pointer_class p = if address_size p then class.D else class.Q
 
--- The slot and the operand of an operand encoding for which no byte is read. One that no plan has is the number 0.
+-- The slot and the operand of an operand encoding for which no byte is read. One that no instance has is the number 0.
 abbrev pub known_operand : OperandEncoding → Prefixes → ℕ → Option Raw → Slot × Operand
 known_operand (G w) p m memory = (slots.Reg, operands.Register (register_of (class_of w p) p (reg_number m p)))
 known_operand Gmm p m memory = (slots.Reg, operands.Register (reg_spec (reg_field m) class.MM))
@@ -195,16 +195,17 @@ reading_with o p operand_list = record {
 }
 
 -- how the reading ends, after its operands
-abbrev pub row_ended : Plan → Prefixes → Operands → Step Reading
-row_ended plan p operand_list = read_opcode plan.verdict plan.opcode >>= λ opcode. pure (reading_with opcode (changed plan.change p) operand_list)
+abbrev pub row_ended : Instance → Prefixes → Operands → Step Reading
+row_ended instance p operand_list = read_opcode instance.verdict instance.opcode >>= λ opcode.
+    pure (reading_with opcode (changed instance.change p) operand_list)
 
 -- What a record has after its ModRM: the operands of rm and reg, the last one, another, and its end, which may be a refusal.
-unfoldable pub read_plan : Plan → Prefixes → ℕ → Step Reading
-read_plan plan p m =
-    leading_read plan.order plan.reg plan.rm p m (sized plan.order.count plan.size) >>= λ leading.
-    other_read plan.order.last plan.last p m leading >>= λ written.
-    other_read plan.order.extra plan.extra p m written >>= λ operand_list.
-    row_ended plan p operand_list
+unfoldable pub read_instance : Instance → Prefixes → ℕ → Step Reading
+read_instance instance p m =
+    leading_read (order_of instance) instance.reg instance.rm p m (sized (order_of instance).count instance.size) >>= λ leading.
+    other_read (order_of instance).last instance.last p m leading >>= λ written.
+    other_read (order_of instance).extra instance.extra p m written >>= λ operand_list.
+    row_ended instance p operand_list
 
 -- ModRM as the row uses it: a byte that isn't there reads as C0, and one whose mod isn't looked at as mod 11
 abbrev pub read_modrm : ModrmUse → Step ℕ
@@ -217,4 +218,4 @@ refuse_fault fault = option_map_or (λ f. refuse (error_of f)) fault (pure tt)
 
 -- what a row has after its opcode
 unfoldable pub record_step : RowRecord → Prefixes → Step Reading
-record_step r p = refuse_fault r.at_opcode >>= λ _. read_modrm r.modrm >>= λ m. read_plan (r.plan m) p m
+record_step r p = refuse_fault r.at_opcode >>= λ _. read_modrm r.modrm >>= λ m. read_instance (r.instance m) p m

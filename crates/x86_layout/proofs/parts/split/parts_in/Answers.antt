@@ -1,10 +1,21 @@
-use Rattle.std.proofs.Common.{ap, ◌∙◌}
-use Rattle.x86_layout.proofs.PartLemmas.Places.{escape_cut, fields_cut, head_cut, opcode_cut, suffix_cut}
+use Rattle.std.proofs.Common.{ℕ, length, ap, arith, length-append, ◌∙◌}
+use Rattle.x86_layout.proofs.PartLemmas.Places.{escape_cut, fields_cut, head_cut, opcode_cut, suffix_cut, suffix_long}
 use Rattle.x86_layout.proofs.PartLemmas.OfBytes.{as_first, there_in}
-use Rattle.x86_layout.proofs.parts.split.parts_at.Goals as goal
+use Rattle.x86_layout.proofs.parts.split.parts_in.Goals as goal
+
+pub overflow_sub-last : goal.overflow_sub-last
+overflow_sub-last c =
+    let w = c.requires.is.whole in
+    let are = c.places-places.ensures ∙ ap (λ i. i.places) c.requires.is.yields in
+    let n_is = c.from-opcode_end.ensures in
+    let fields = fields_cut w are n_is (c.split_at.ensures.back ∙ (head_cut w are n_is).1) c.from.ensures in
+    let last = ap length (c.split_at-4.ensures.back ∙ fields.1) in
+    omega (arith, length-append {A = ℕ}, last, suffix_long w are c.from-2.ensures)
 
 pub returns : goal.returns
-returns c = λ strict reading w are.
+returns c = λ strict is.
+    let w = is.whole in
+    let are = c.places-places.ensures ∙ ap (λ i. i.places) is.yields in
     let n_is = c.from-opcode_end.ensures in
     let head = head_cut w are n_is in
     let opcode = opcode_cut w are n_is (c.split_at.ensures.front ∙ head.0) in

@@ -1,4 +1,4 @@
--- In the memory form a plan goes by reg, and not by mod, rm, and the bits X and B. It refuses, or writes the memory as an
+-- In the memory form an instance goes by reg, and not by mod, rm, and the bits X and B. It refuses, or writes the memory as an
 -- operand.
 use Rattle.std.proofs.Common.{◌≡◌, ℕ, Bool, true, false, Option, Some, None, refl, arith}
 use Rattle.std.proofs.lemmas.Bool.{and_parts}
@@ -7,19 +7,19 @@ use Rattle.x86_fields.specs.declared.rex.PrefixRex.{PrefixRex}
 use Rattle.x86_fields.specs.ModRM.{reg_field, is_memory}
 use Rattle.x86_fields.specs.Raw.{has_r, has_w}
 use Rattle.x86_forms.specs.declared.Form.{Form}
-use Rattle.x86_operands.specs.declared.plans.ModrmUse.TheVariants.{EitherForm}
+use Rattle.x86_operands.specs.declared.vocabulary.ModrmUse.TheVariants.{EitherForm}
 use Rattle.x86_forms.specs.declared.Form.TheVariants as form
 use Rattle.x86_forms.specs.declared.TableRow.{TableRow}
 use Rattle.x86_forms.specs.Groups.{is_group}
-use Rattle.x86_operands.specs.Plans.{is_refusal}
-use Rattle.x86_operands.specs.Forms.{form_plan, form_record}
+use Rattle.x86_operands.specs.Records.{is_refusal}
+use Rattle.x86_operands.specs.Forms.{form_instance, form_record}
 use Rattle.x86_operands.specs.Pieces.{writes_modrm}
 use Rattle.x86_layout.specs.Tightening.Tighten.{bits_in}
 use Rattle.x86_operands.specs.Columns.{choose}
 use Rattle.x86_operands.specs.Rows.{form_rows}
 use Rattle.x86_operands.proofs.PlainLemmas as form_facts
-use Rattle.x86_operands.proofs.ColumnLemmas.{SamePrefixes, chosen_in_memory, first_in_memory, has_memory_alone, plan_in_memory, rows_alike}
-use Rattle.x86_groups.specs.Groups.{is_f3_alone, group_fault, group_plan, group_record, record_of}
+use Rattle.x86_operands.proofs.ColumnLemmas.{SamePrefixes, chosen_in_memory, first_in_memory, has_memory_alone, instance_in_memory, rows_alike}
+use Rattle.x86_groups.specs.Groups.{is_f3_alone, group_fault, group_instance, group_record, record_of}
 use Rattle.x86_groups.specs.Rows.{group_rows}
 use Rattle.x86_groups.proofs.AddressLemmas.{By}
 use Rattle.x86_groups.proofs.GroupLemmas as group_facts
@@ -58,10 +58,10 @@ module _ (strict : Bool) (row : TableRow) (p : Prefixes) (x b : Bool) (m n : ℕ
     r = with_bits x b p m mm has_r (λ r. refl) p.rex;
   }
 
-  by_plan : (group : Bool) → (By strict row group p).modrm ≡ EitherForm → (By strict row group Other).plan n ≡ (By strict row group p).plan m
-  unfolding group_record group_plan form_record form_plan
-  by_plan true usage = rows_alike (group_rows row.form) row strict Other p n m (group_facts.rows_keep_reg row.form) same_prefixes nm mm same
-  by_plan false usage = rows_alike (form_rows row.form) row false Other p n m (form_facts.rows_keep_reg row.form usage) same_prefixes nm mm same
+  by_instance : (group : Bool) → (By strict row group p).modrm ≡ EitherForm → (By strict row group Other).instance n ≡ (By strict row group p).instance m
+  unfolding group_record group_instance form_record form_instance
+  by_instance true usage = rows_alike (group_rows row.form) row strict Other p n m (group_facts.rows_keep_reg row.form) same_prefixes nm mm same
+  by_instance false usage = rows_alike (form_rows row.form) row false Other p n m (form_facts.rows_keep_reg row.form usage) same_prefixes nm mm same
 
   by_use : (group : Bool) → (By strict row group Other).modrm ≡ (By strict row group p).modrm
   unfolding group_record form_record
@@ -75,24 +75,24 @@ module _ (strict : Bool) (row : TableRow) (p : Prefixes) (x b : Bool) (m n : ℕ
   pub same_record :
       ((record_of strict row Other).at_opcode ≡ (record_of strict row p).at_opcode)
       × ((record_of strict row Other).modrm ≡ (record_of strict row p).modrm)
-      × ((record_of strict row p).modrm ≡ EitherForm → (record_of strict row Other).plan n ≡ (record_of strict row p).plan m)
-  same_record = (by_fault (is_group row.form), by_use (is_group row.form), by_plan (is_group row.form))
+      × ((record_of strict row p).modrm ≡ EitherForm → (record_of strict row Other).instance n ≡ (record_of strict row p).instance m)
+  same_record = (by_fault (is_group row.form), by_use (is_group row.form), by_instance (is_group row.form))
 
--- ---- what a plan writes
+-- ---- what an instance writes
 
 module _ (strict : Bool) (row : TableRow) (p : Prefixes) (m : ℕ) (mm : is_memory m ≡ true) where
-  by_kind : (group : Bool) → (By strict row group p).modrm ≡ EitherForm → plan_in_memory ((By strict row group p).plan m) ≡ true
-  unfolding group_record group_plan form_record form_plan
+  by_kind : (group : Bool) → (By strict row group p).modrm ≡ EitherForm → instance_in_memory ((By strict row group p).instance m) ≡ true
+  unfolding group_record group_instance form_record form_instance
   by_kind true usage = chosen_in_memory (choose (group_rows row.form) row strict p m) row p m
       (first_in_memory (group_rows row.form) row strict p m (group_facts.rows_keep_reg row.form) mm)
   by_kind false usage = chosen_in_memory (choose (form_rows row.form) row false p m) row p m
       (first_in_memory (form_rows row.form) row false p m (form_facts.rows_keep_reg row.form usage) mm)
 
   -- it writes ModRM's memory operand, and no other operand goes by rm, X or B
-  pub row_has_memory : (record_of strict row p).modrm ≡ EitherForm → is_refusal ((record_of strict row p).plan m).verdict ≡ false →
-      has_memory_alone ((record_of strict row p).plan m) ≡ true
+  pub row_has_memory : (record_of strict row p).modrm ≡ EitherForm → is_refusal ((record_of strict row p).instance m).verdict ≡ false →
+      has_memory_alone ((record_of strict row p).instance m) ≡ true
   row_has_memory usage accepted = cc (by_kind (is_group row.form) usage, accepted)
 
-  pub row_writes : (record_of strict row p).modrm ≡ EitherForm → is_refusal ((record_of strict row p).plan m).verdict ≡ false →
-      writes_modrm ((record_of strict row p).plan m) ≡ true
-  row_writes usage accepted = (and_parts (writes_modrm ((record_of strict row p).plan m)) _ (row_has_memory usage accepted)).0
+  pub row_writes : (record_of strict row p).modrm ≡ EitherForm → is_refusal ((record_of strict row p).instance m).verdict ≡ false →
+      writes_modrm ((record_of strict row p).instance m) ≡ true
+  row_writes usage accepted = (and_parts (writes_modrm ((record_of strict row p).instance m)) _ (row_has_memory usage accepted)).0
