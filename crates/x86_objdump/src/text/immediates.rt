@@ -10,6 +10,7 @@ use x86_streams::lines::cells::put;
 use x86_streams::lines::hexadecimal::put_prefixed;
 
 /// The number of bytes, sign-extended to 64 bits.
+#[inline(always)]
 fn extended(bytes: &[u8]) -> u64
     ensures { result ≡ extended bytes.now }
 {
@@ -17,6 +18,7 @@ fn extended(bytes: &[u8]) -> u64
 }
 
 /// The number of a byte that is extended to the operand size.
+#[inline(always)]
 fn extended_to_v(context: &Context, bytes: &[u8]) -> u64
     ensures { result ≡ extended_to_v context.now bytes.now }
 {
@@ -29,6 +31,7 @@ fn extended_to_v(context: &Context, bytes: &[u8]) -> u64
     }
 }
 
+#[inline(always)]
 fn byte_number(context: &Context, bytes: &[u8]) -> u64
     ensures { result ≡ byte_number context.now bytes.now }
 {
@@ -45,6 +48,7 @@ fn byte_number(context: &Context, bytes: &[u8]) -> u64
     }
 }
 
+#[inline(always)]
 fn four_number(context: &Context, bytes: &[u8]) -> u64
     ensures { result ≡ four_number context.now bytes.now }
 {
@@ -55,6 +59,7 @@ fn four_number(context: &Context, bytes: &[u8]) -> u64
     }
 }
 
+#[inline(always)]
 fn immediate_number(context: &Context, bytes: &[u8]) -> u64
     ensures { result ≡ immediate_number context.now bytes.now }
 {
@@ -66,7 +71,7 @@ fn immediate_number(context: &Context, bytes: &[u8]) -> u64
 }
 
 /// Writes the immediate of these bytes.
-#[inline(never)]
+#[inline(always)]
 #[tactic(auto, unfolding(crate::specs::Text::Immediates::immediate_text))]
 pub fn put_immediate(cells: &mut [u8], at: usize, context: &Context, bytes: &[u8]) -> usize
     requires { at + 18 ≤ length cells.old }

@@ -127,8 +127,29 @@ fn put_selected(
     put_shown(cells, at, &shown, parts.prefixes, next)
 }
 
+/// Writes the text of an instruction by what its whole run selects.
+#[inline(never)]
+fn put_by_run(
+    cells: &mut [u8],
+    at: usize,
+    decoder: &InstDecoder,
+    inst: &Instruction,
+    bytes: &[u8],
+    next: u64,
+) -> usize
+    requires decoded { answer_of (is_strict decoder.now) bytes.now ≡ Ok inst.now }
+    requires room { at + 449 ≤ length cells.old }
+    ensures text { take result cells.new ≡ take at cells.old
+        ++ listed_text inst.now (parts_of (is_strict decoder.now) bytes.now) next }
+    ensures short { result ≤ at + 443 }
+{
+    let parts = split_decoded(decoder, inst, bytes);
+    let prefixes = reading_of(parts.prefixes);
+    put_selected(cells, at, decoder, inst, bytes, &parts, prefixes, next)
+}
+
 /// Writes the text of an instruction, where the next instruction is at the address `next`. The decoder reads the bytes as
-/// it. Most have no prefix but a REX.
+/// it. Most have no prefix but a REX: of those no test of another prefix is left.
 #[inline(always)]
 pub fn put_instruction(
     cells: &mut [u8],
@@ -148,7 +169,7 @@ pub fn put_instruction(
     let prefixes = match parts.prefixes {
         [] => Prefixes::none(),
         [byte] if is_rex(*byte) => Prefixes::none().after(*byte),
-        run => reading_of(run),
+        _ => return put_by_run(cells, at, decoder, inst, bytes, next),
     };
     put_selected(cells, at, decoder, inst, bytes, &parts, prefixes, next)
 }

@@ -331,13 +331,14 @@ fn put_apart(
     put_long_name(cells, at, &context, entry, immediate)
 }
 
-/// Whether no encoding of the one-byte map up to this opcode byte has a name of its own.
+/// Whether no encoding of this opcode byte has a name of its own, where a few tests show it.
 #[inline(always)]
 #[tactic(auto, unfolding(crate::specs::Text::Names::special_name))]
-fn is_early(context: &Context) -> bool
+fn lacks_own_name(context: &Context) -> bool
     ensures { IsTrue result → special_name context.now ≡ [] }
 {
-    matches!(context.map, Map::One) && context.opcode < 0x90
+    matches!(context.map, Map::One)
+        && (context.opcode < 0x90 || matches!(context.opcode, 0xc6 | 0xc7))
 }
 
 /// Whether a name that may have more is the stem, where a few tests show it.
@@ -348,7 +349,7 @@ fn is_stem(context: &Context, entry: &Entry) -> bool
         long_name context.now entry.now immediate ≡ stem entry.now }
 {
     match entry.name_letter() {
-        b'k' => is_early(context),
+        b'k' => lacks_own_name(context),
         b'w' | b's' => !context.prefixes.operand_size(),
         _ => false,
     }

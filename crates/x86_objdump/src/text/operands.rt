@@ -2,7 +2,6 @@
 
 ghost use Rattle.std.specs.Prelude.{◌≡◌, ◌+◌, ◌*◌, ◌<◌, ◌≤◌, ◌++◌, length, take};
 ghost use Rattle.x86_decode.specs.Instruction.{operands_of, slot_at};
-ghost use Rattle.x86_objdump.specs.Text.Immediates.{immediate_text};
 ghost use Rattle.x86_objdump.specs.Text.Memory.{memory_text};
 ghost use Rattle.x86_objdump.specs.Text.Sizes.{memory_size, size_words};
 ghost use Rattle.x86_objdump.specs.Text.Operands.{operand_by, listed_operand, following_operands, list_text, first_text, target_text, is_rare_move, is_as_answered, is_target_alone, unlisted_text, listed_operands, comma};
@@ -38,18 +37,6 @@ fn put_sized_memory(cells: &mut [u8], at: usize, shown: &Shown) -> usize
     put_memory(cells, at, shown.context, &parts_in(shown))
 }
 
-/// Writes an immediate by a copy of the context.
-#[inline(always)]
-fn put_immediate_apart(cells: &mut [u8], at: usize, context: &Context, bytes: &[u8]) -> usize
-    requires { at + 18 ≤ length cells.old }
-    ensures text { take result cells.new ≡
-        take at cells.old ++ immediate_text context.now bytes.now }
-    ensures short { result ≤ at + 18 }
-{
-    let context = *context;
-    put_immediate(cells, at, &context, bytes)
-}
-
 /// Writes an operand that comes from a slot.
 #[inline(always)]
 fn put_operand(cells: &mut [u8], at: usize, shown: &Shown, slot: Slot, operand: &Operand) -> usize
@@ -72,7 +59,7 @@ fn put_operand(cells: &mut [u8], at: usize, shown: &Shown, slot: Slot, operand: 
         | Operand::ImmediateU32 { .. }
         | Operand::ImmediateI64 { .. }
         | Operand::ImmediateU64 { .. } => {
-            put_immediate_apart(cells, at, shown.context, immediate_in(shown))
+            put_immediate(cells, at, shown.context, immediate_in(shown))
         }
         _ => put_sized_memory(cells, at, shown),
     }
