@@ -1,9 +1,6 @@
 """The rows of forms, as specs/Rows.antt of x86_operands and of x86_groups have them, the heads of forms and the cells of groups: for tools/tables.py,
-which writes their tables.
-
-It also says with the row what the proof doesn't: a row that is never reached, and a form whose rows leave a gap. A row that is read at once wherever
-the form, mod and reg have it is named in a head or a cell. The others are searched.
-"""
+which writes their tables. A row that is never reached, and a form whose rows leave a gap, are errors, which no proof finds. A row that is read at once
+wherever the form, mod and reg have it is named in a head or a cell. The others are searched."""
 
 import functools
 import re
@@ -14,11 +11,21 @@ from itertools import product
 from sources import CRATES
 
 CARRIED = 8  # how many numbers a form with a field can carry
-
 UNDECIDED = 63  # the size that means one that the processor decides
 # the function from a form to its rows, and the crate that has it
 PLAIN, GROUPS = "form_rows", "group_rows"
 CRATE_OF = {PLAIN: "x86_operands", GROUPS: "x86_groups"}
+
+
+def forms_of(file, definition, answer):
+    """The forms for which a definition has this answer."""
+    return {*re.findall(rf"^{definition} form\.(\w+) = {answer}$", (CRATES / file).read_text(), re.M)}
+
+
+# the groups, those of which every mod is a register form, and those that have no cells
+GROUPED = forms_of("x86_forms/specs/Groups.antt", "is_group", "true")
+WITHOUT_MOD = forms_of("x86_groups/specs/Groups.antt", "group_modrm", "Registers")
+SEARCHED = forms_of("x86_operands/specs/Forms.antt", "is_searched", "true")
 # the marks that a row needs, and those that it is without: prefixes, and register 0 of the opcode byte
 WHEN = {
     "Always": ((), ()),
@@ -55,7 +62,6 @@ class Row:
     error: str  # None of a row that is read
 
     def marks(self):
-        """The marks that the row needs, and those that it is without."""
         return WHEN[self.when] if isinstance(self.when, str) else ((f"opcode.{self.when[1]}",), ())
 
     def is_in(self, memory):
@@ -85,7 +91,6 @@ class Row:
         return self.names[1:] if isinstance(self.names, list) else []
 
     def opcodes(self):
-        """The opcodes that the row has as numbers, or `none`."""
         return self.named() + (self.when[1:] if isinstance(self.when, list) else [])
 
 
@@ -151,21 +156,9 @@ def rows_in(text):
 @functools.cache
 def rows_of(function):
     """The rows of each form, and under `f` those of a form that has no line, each checked."""
-    text = (CRATES / CRATE_OF[function] / "specs" / "Rows.antt").read_text()
-    text = re.sub(r"^ *--.*\n", "", text, flags=re.M)
+    text = re.sub(r"^ *--.*\n", "", (CRATES / CRATE_OF[function] / "specs" / "Rows.antt").read_text(), flags=re.M)
     found = re.findall(rf"^{function} (?:\(?form\.(\w+)(?: n\))?|f) =((?:[^\n]*\n)(?: .*\n)*)", text, re.M)
     return {form or "f": checked(function, form, [*rows_in(body.strip())]) for form, body in found}
-
-
-@functools.cache
-def forms_of(file, definition, answer):
-    """The forms for which a definition has this answer."""
-    return {*re.findall(rf"^{definition} form\.(\w+) = {answer}$", (CRATES / file).read_text(), re.M)}
-
-
-def without_mod():
-    """The groups of which every mod is a register form."""
-    return forms_of("x86_groups/specs/Groups.antt", "group_modrm", "Registers")
 
 
 def name_of(form):
@@ -188,7 +181,7 @@ def first(rows, *where):
 
 def reached(form, rows, choices=(False, True)):
     """The places of the rows that a ModRM byte reaches under some prefixes and choice, and None if none holds somewhere."""
-    memory = [False] if form in without_mod() else [False, True]
+    memory = [False] if form in WITHOUT_MOD else [False, True]
     return {first(rows, *where) for where in product(memory, range(8), range(8), choices, [*states(rows)])}
 
 
@@ -196,9 +189,8 @@ def checked(function, form, rows):
     """The rows of a form, if each is reached, there is always one, and all have a ModRM byte or none has."""
     name = f"{function.removesuffix('_rows')} {name_of(form)}"
     here = reached(form, rows)
-    for at, each in enumerate(rows):
-        if at not in here:
-            sys.exit(f"tables.py: {name}: never reached: {each.text}")
+    if unseen := [each.text for at, each in enumerate(rows) if at not in here]:
+        sys.exit(f"tables.py: {name}: never reached: {unseen[0]}")
     if None in here:
         sys.exit(f"tables.py: {name} leaves a gap: end it with `otherwise`")
     if len({each.place == "Bare" for each in rows}) > 1:
@@ -214,12 +206,10 @@ def letters():
 
 
 def constant(word):
-    """The constant of a word for one operand."""
     return re.sub(r"(?<=[a-z])(?=[A-Z])", "_", word).upper()
 
 
 def code(of):
-    """A term as code."""
     text = of if isinstance(of, str) else f"{of[0]}({', '.join(of[1:])})"
     return re.sub(r"(\w+)\.(?=\w)", lambda kind: f"{TYPE_OF[kind[1]]}::", text)
 
@@ -257,7 +247,7 @@ class Template:
         return len(self.last) < 2 and all(head in AT_ONCE for head, _ in self.last)
 
     def __str__(self):
-        last, extra = [text for _, text in self.last] + ["ABSENT"] * (2 - len(self.last))
+        last, extra = [*(text for _, text in self.last), "ABSENT", "ABSENT"][:2]
         return f"{self.order} {self.reg} {str(self.of_opcode).lower()} {self.rm or 'B'} {last}, {extra}"
 
 
@@ -279,7 +269,6 @@ def entry(each, numbers):
 
 
 def noted(text, note):
-    """A line of a table with a comment, if there is one."""
     return f"{text}, // {note}" if note else f"{text},"
 
 
@@ -299,33 +288,24 @@ def by_ordinal(forms, text_of):
 
 
 def tables(function, forms, numbers):
-    """The constants of a table of rows, for operands that have a word; the rows of all forms, after that of a form that has none; and the first row of each
-    ordinal, with the one after its last."""
+    """The constants of a table of rows, for operands that have a word; the rows of all forms, after that of a form that has none; and where the rows of
+    each ordinal are."""
     every, spans = rows_of(function), placed(function, forms)
     operands = {text for each in every.values() for row in each for _, text in Template(row.operands).last}
     constants = [f"{constant(word)}: OperandEncoding = {code(of)};" for word, of in letters().items() if constant(word) in operands]
-    rows = [(entry(every["f"][0], numbers), "")]
+    rows = [noted(entry(every["f"][0], numbers), "")]
     for form, each in ((form, each) for form in forms for each in every.get(form, [])):
-        rows.append((entry(each, numbers), " ".join([name_of(form), *("-" if name == "none" else name for name in each.opcodes())])))
-    return constants, {"ROWS": [f"    {noted(*row)}" for row in rows], "SPANS": by_ordinal(forms, spans.get)}
+        rows.append(noted(entry(each, numbers), " ".join([name_of(form), *("-" if name == "none" else name for name in each.opcodes())])))
+    return constants, {"ROWS": [f"    {row}" for row in rows], "SPANS": by_ordinal(forms, spans.get)}
 
 
 # ---- Heads and cells ----
 
 
-def groups():
-    return forms_of("x86_forms/specs/Groups.antt", "is_group", "true")
-
-
-def searched():
-    """The groups that have no cells."""
-    return forms_of("x86_operands/specs/Forms.antt", "is_searched", "true")
-
-
 def head(form, first):
     """What follows the opcode byte, and the row."""
-    if form in groups():
-        return "Search 0" if form in searched() else "Cells 0"
+    if form in GROUPED:
+        return "Search 0" if form in SEARCHED else "Cells 0"
     if form not in rows_of(PLAIN):
         sys.exit(f"tables.py: {form} has no rows in specs/Rows.antt of x86_operands")
     row = rows_of(PLAIN)[form][0]
@@ -334,7 +314,6 @@ def head(form, first):
 
 
 def heads(forms):
-    """The heads of the forms in their order."""
     spans = placed(PLAIN, forms)
     return ["    head!(Search 0), // the number 0, which no form has", *by_ordinal(forms, lambda form: f"head!({head(form, spans[form][0])})")]
 
@@ -354,7 +333,7 @@ def cell(rows, first, memory, reg, numbers):
 
 def cells(forms, numbers):
     """Where the cells of each form are, and the cells of each group that has some: of the memory forms by reg, then of the register forms."""
-    spans, of = placed(GROUPS, forms), [form for form in forms if form in groups() - searched()]
+    spans, of = placed(GROUPS, forms), [form for form in forms if form in GROUPED - SEARCHED]
     places = {form: 1 + at for at, form in enumerate(of)}
     lines = ["    [", *["        cell!(0 0),"] * 16, "    ],"]
     for form in of:

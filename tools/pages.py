@@ -1,32 +1,15 @@
 #!/usr/bin/env python3
-"""Holds what the pages print against what is so.
+"""Holds what the pages print against what is so: `python3 tools/pages.py`. The checks below say what each page must have.
 
-    python3 tools/pages.py
-
-Examples of README.md and docs/USAGE.md: in a block of indented lines, each line after `$ ` is run by the shell, in a folder with `x86`, `show`,
-tools/ and examples/, and what it prints must be the lines below it. Where these are `...`, anything may be printed. In the table of statuses the
-example of a row must end with its status. Standard error must be empty, but for the usage line at status 2. Each run must end within a minute. The
-programs are the built ones, or those that PROGRAM and SHOW name; where one, or a tool of an example, is missing, the examples that need it are
-skipped with a line.
+Examples of README.md, docs/USAGE.md and the crates' pages: in a block of indented lines, each line after `$ ` is run by the shell, in a folder with
+`x86`, `show`, tools/ and examples/, and what it prints must be the lines below it. Where these are `...`, anything may be printed. In the table of
+statuses the example of a row must end with its status. Standard error must be empty, but for the usage line at status 2. Each run must end within a
+minute. The programs are the built ones, or those that PROGRAM and SHOW name; where one, or a tool of an example, is missing, the examples that need
+it are skipped with a line.
 
 The examples of docs/USAGE.md are run again with other addresses in place of theirs, those of a library and of a kernel, and then with a text that
 comes in pieces; and its recipes over code of bash of one and of two megabytes: with twice the text no command may take more than three times the
 processor time, and a second, or 8 MB more memory. What they print of such code is held against objdump (tools/recipes.py).
-
-Examples of README.md, docs/GUIDE.md and crates/*/README.md: each indented block is in one of the files of `CODE`, or of `TESTS`, line by line, only
-further to the right, and so is what docs/GUIDE.md prints after a command (the gate compares it with what the programs print). Each crate of
-crates.txt has a README.md, of ten to thirty lines.
-
-Quoted code of the pages of `QUOTING`: each indented line that isn't a command, nor of a drawing, is a line of some file of crates/, letter by letter.
-The links of the pages of `LINKING` are to files and headings that are there (tools/theorem.py writes their code). Each file that README.md,
-CONTRIBUTING.md or a page of docs/ names, by the end of its path, is there, but for those of docs/CHANGES.md.
-
-Figures of a page that are older than the code that they measure are named.
-
-Counts of rows, names, forms, C functions and worked encodings on README.md and the pages of `counts` are those of the sources.
-
-Reasons of tools/compare: those of tools/judge/reasons.c are the rows of their section of docs/DIFFERENCES.md, and those of tools/judge/listing.py of
-docs/USAGE.md. The modules of lemmas in docs/DECISIONS.md are those that proofs of x86_decode import.
 """
 
 import os
@@ -43,11 +26,9 @@ sys.path.append(str(Path(__file__).parent / "judge"))
 import listing
 import recipes
 import tables
-from sources import CODE as CODE_PATHS
-from sources import TOP, anchor, built, git, packages, section, source_texts, worked_lines
-from sources import reasons as reasons_of_zydis
+import sources
+from sources import PROGRAM, SHOW, TOP, anchor, lacking, section, skip, source_texts
 
-PROGRAM, SHOW = built("x86", "PROGRAM"), built("x86_show", "SHOW")
 ENVIRONMENT = os.environ | {"SHOW": "./show"}  # for `dis`
 # A command that takes longer than a minute is killed, with all that it started.
 WITHIN_TIME, KILLED = ["timeout", "-s", "KILL", "60", "sh", "-c"], -9
@@ -63,10 +44,10 @@ IN_PIECES = """#!/bin/sh
 """
 BIG = 1000000
 TIMES, SPARE_SECONDS, SPARE_KILOBYTES = 3, 1, 8192
+# Where the examples of pages are: the tests, and perhaps what the guide's programs print.
 TESTS = ["crates/uses/src/**/*"]
 CODE = [*TESTS, "crates/uses/stdout"]
 QUOTING = ["docs/ROWS.md", "docs/ENCODING.md", "docs/ARCHITECTURE.md", "CONTRIBUTING.md"]
-TOOLS_OF_COSTS = "objcopy xxd readelf perl"
 LINKING = ["docs/THEOREM.md", "docs/DEFINITIONS.md"]
 # The files of the repository, and what is beside them, a line each.
 KNOWN = "".join(f"{path}\n" for path in TOP.rglob("*.*"))
@@ -88,11 +69,9 @@ def examples(page, heading=""):
                 yield command.replace("\n> ", "\n"), printed[1:].rstrip("\n")
 
 
-def lacking(command):
-    """What a command needs and isn't there."""
-    lacks_show = "./show" in command and not os.access(SHOW, os.X_OK)
-    missing = [f"the package {of}" for tool, of in packages().items() if re.search(rf"\b{tool}\b", command) and shutil.which(tool) is None]
-    return missing + ["x86_show"] * lacks_show
+def lacks(command):
+    tools = [tool for tool in sources.packages() if re.search(rf"\b{tool}\b", command)]
+    return lacking(*tools, *[SHOW] * ("./show" in command))
 
 
 def run(command, folder):
@@ -102,7 +81,6 @@ def run(command, folder):
 
 
 def differs(page, command, what, got, wanted):
-    """Whether what a command did isn't what the page says of it."""
     if got != wanted:
         print(f"pages: {page}: {what} of: {command}\n--- the page\n{wanted}\n--- the run\n{got}\n---", file=sys.stderr)
     return got != wanted
@@ -129,14 +107,13 @@ def moved(text, base):
 
 def run_examples(page, base=BASE, in_pieces=False):
     """Runs the examples of a page, and answers how many print something else."""
-    wrong, how = 0, page + (f" at {base:#x}" if base != BASE else "") + (" with a text in pieces" if in_pieces else "")
+    wrong, how = 0, page + f" at {base:#x}" * (base != BASE) + " with a text in pieces" * in_pieces
     with tempfile.TemporaryDirectory() as folder:
         program_in(folder, in_pieces)
         lost = set()  # the files that skipped examples would have written
         for command, wanted in examples(page):
-            missing = lacking(command) + [name for name in sorted(lost) if re.search(rf"\b{name}\b", command)]
-            if missing:
-                print(f"pages: skipped, {missing[0]} is missing: {command}", file=sys.stderr)
+            if missing := lacks(command) or next((name for name in sorted(lost) if re.search(rf"\b{name}\b", command)), None):
+                skip(missing, command)
                 lost.update(re.findall(r"(?:> |\btee )(\w+)", command))
                 continue
             if base != BASE:
@@ -177,22 +154,17 @@ def costs_of_recipes(page, code):
         program_in(folder)
         (Path(folder) / "big.hex").write_text(re.sub("(.{60})", "\\1\n", code.hex()))
         for command, _ in examples(page, "Recipes"):
-            if lacking(command):
-                continue
-            command = re.sub(r"printf '[0-9a-f ]+'", "cat big.hex", command)
-            command = re.sub(r"examples/\w+\.hex", "big.hex", re.sub(r" \| head -n \d+", "", command))
-            yield command, costs(command, folder)
+            if not lacks(command):
+                command = re.sub(r"printf '[0-9a-f ]+'", "cat big.hex", command)
+                command = re.sub(r"examples/\w+\.hex", "big.hex", re.sub(r" \| head -n \d+", "", command))
+                yield command, costs(command, folder)
 
 
 def measure_recipes(page):
     """Compares what the recipes cost over some code and over twice as much, and answers how many cost more than in proportion."""
-    with tempfile.TemporaryDirectory() as folder:
-        subprocess.run(["objcopy", "-O", "binary", "-j", ".text", "/bin/bash", "code"], cwd=folder, check=True)
-        code = (Path(folder) / "code").read_bytes() * 3
-    wrong = 0
+    code, wrong = sources.code_of("/bin/bash") * 3, 0
     for (command, once), (_, twice) in zip(costs_of_recipes(page, code[:BIG]), costs_of_recipes(page, code[: 2 * BIG])):
-        is_well = once and twice and twice[0] <= TIMES * once[0] + SPARE_SECONDS and twice[1] <= once[1] + SPARE_KILOBYTES
-        if not is_well:
+        if not (once and twice and twice[0] <= TIMES * once[0] + SPARE_SECONDS and twice[1] <= once[1] + SPARE_KILOBYTES):
             print(f"pages: {page}: seconds and kilobytes over {BIG} bytes {once}, over twice as many {twice}: {command}", file=sys.stderr)
             wrong += 1
     return wrong
@@ -200,12 +172,12 @@ def measure_recipes(page):
 
 def try_recipes(page):
     """Tries the recipes over a stranger's code, and answers how many cost too much or aren't right."""
-    if lacks := lacking(TOOLS_OF_COSTS) + ["/bin/bash"] * (not os.access("/bin/bash", os.R_OK)):
-        print(f"pages: skipped, {', '.join(lacks)} is missing: what the recipes cost", file=sys.stderr)
-        return 0
+    if missing := lacking("objcopy", "xxd", "readelf", "perl", "/bin/bash"):
+        return skip(missing, "what the recipes cost") or 0
+    commands = [command for command, _ in examples(page, "Recipes") if not lacks(command)]
     with tempfile.TemporaryDirectory() as folder:
         program_in(folder)
-        return measure_recipes(page) + recipes.tried(page, [command for command, _ in examples(page, "Recipes") if not lacking(command)], run, folder)
+        return measure_recipes(page) + recipes.tried(page, commands, run, folder)
 
 
 def occurs_in(block, text):
@@ -253,14 +225,9 @@ def paths(page):
     """The files that a page names, by the end of their paths, by tools/ or by docs/, and that aren't there."""
     text = (TOP / page).read_text()
     files = re.findall(r"(?<![\w/])([\w/-]*\w\.(?:rt|antt|py|c|sh|txt))\b", text.replace("bin/rtlib.py", "").replace("../", ""))
-    lost = [name for name in files if f"/{name}\n" not in KNOWN] + [name for name in re.findall(r"\b(?:tools|docs)/[\w./-]*\w", text) if not (TOP / name).exists()]
+    lost = [name for name in files if f"/{name}\n" not in KNOWN]
+    lost += [name for name in re.findall(r"\b(?:tools|docs)/[\w./-]*\w", text) if not (TOP / name).exists()]
     return [f"no file is {name}" for name in dict.fromkeys(lost)]
-
-
-def reasons(page, heading, names):
-    """The reasons of a judge of tools/compare, and the rows of their section, that one of the two alone has."""
-    rows = re.findall(r"^\| (?!reason )([^|-][^|]*?) \|", section((TOP / page).read_text(), heading), re.M)
-    return [f"a reason of tools/judge without a row, or a row without one: {name}" for name in sorted({*rows} ^ {*names})]
 
 
 def lemmas(page):
@@ -276,8 +243,8 @@ def counts(page):
     """The counts of a page that are others than those of the sources, or aren't there."""
     groups = (TOP / "crates/x86_forms/specs/Groups.antt").read_text().count("form.")
     functions = len(re.findall(r"^(?!-|#)", (TOP / "tools/trusted.txt").read_text().rstrip(), re.M))
-    encodings = r"([\d,]+) (?:worked\s+)?encodings", [len(worked_lines()) // 100 * 100]
-    names, of_c = (r"(\d+) names\b", [len(tables.names())]), (r"contracts of (\d+) C functions", [functions])
+    encodings = r"([\d,]+) (?:worked\s+)?encodings", [len(sources.worked_lines()) // 100 * 100]
+    names, of_c = (r"(\d+) names\b", [len(tables.numbers())]), (r"contracts of (\d+) C functions", [functions])
     wanted = {
         "README.md": [(r"opcode maps\s+as (\S+) rows", [sum(map(len, tables.rows().values()))]), of_c, encodings],
         "docs/PROVED.md": [of_c, encodings],
@@ -295,32 +262,31 @@ def counts(page):
 def name_old_figures(page):
     """Names the figures of a page, as `2026-12-01, commit 20ae410f`, after whose commit the code of crates/ changed. It fails nothing."""
     for date, commit in re.findall(r"(\d{4}-\d\d-\d\d)[^.|]{0,40}? commit ([0-9a-f]{7,12})\b", (TOP / page).read_text()):
-        if (count := git("rev-list", "--count", f"{commit}..HEAD", *CODE_PATHS)) not in ("", "0"):
+        if (count := sources.git("rev-list", "--count", f"{commit}..HEAD", *sources.CODE)) not in ("", "0"):
             print(f"pages: {page}: figures of {date}, commit {commit}, are older than the code: {count} commits have changed it since")
 
 
 def read(readmes):
     """Reads the pages, and answers how much in them isn't so."""
     checks = [(guide, "docs/GUIDE.md", CODE, True), (guide, "README.md", CODE), (lemmas, "docs/DECISIONS.md")]
-    checks += [(reasons, "docs/DIFFERENCES.md", "Other answers than zydis", reasons_of_zydis())]
-    checks += [(reasons, "docs/USAGE.md", "The listing for people", listing.REASONS)]
     checks += [(quotes, page) for page in QUOTING] + [(crate, page) for page in readmes] + [(links, page) for page in LINKING]
     checks += [(check, page) for page in ["README.md", *NAMING] for check in (paths, counts)] + [(paths, "CONTRIBUTING.md")]
     checks += [(counts, page) for page in readmes if (TOP / page).exists()]
-    found = [f"pages: {page}: {what}" for check, page, *words in checks for what in check(page, *words)]
-    print("".join(f"{line}\n" for line in found), end="", file=sys.stderr)
+    found = [f"{page}: {what}" for check, page, *words in checks for what in check(page, *words)]
+    found += sources.reasons_without_rows(listing.REASONS)
+    print("".join(f"pages: {line}\n" for line in found), end="", file=sys.stderr)
     return len(found)
 
 
 def main():
     readmes = [f"crates/{crate}/README.md" for crate in re.findall(r"^(\w+)\b.*:", (TOP / "crates.txt").read_text(), re.M)]
     wrong = read(readmes)
-    if os.access(PROGRAM, os.X_OK):
+    if missing := lacking(PROGRAM):
+        skip(missing, "the examples")
+    else:
         wrong += sum(run_examples(page) for page in ("README.md", "docs/USAGE.md", *readmes) if (TOP / page).exists())
         wrong += run_examples("docs/USAGE.md", LIBRARY, in_pieces=True) + run_examples("docs/USAGE.md", KERNEL)
         wrong += run_statuses("docs/USAGE.md") + try_recipes("docs/USAGE.md")
-    else:
-        print(f"pages: skipped, {PROGRAM} is missing: the examples", file=sys.stderr)
     for page in ("docs/PERFORMANCE.md", "docs/COMPARED.md", "docs/DIFFERENCES.md", "tools/budgets.txt"):
         name_old_figures(page)
     if wrong == 0:

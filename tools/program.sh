@@ -2,14 +2,11 @@
 # it is made of, and how it starts. They read this file by `. tools/program.sh`, where `top` is the folder of the repository.
 
 VERSION=1.0
-
-# The crate of the program, and the table of its commands, a line each: its words, two blanks or more, and what it does.
 PROGRAM_CRATE=x86
+# A line for each command: its words, two blanks or more, and what it does.
 commands=$top/tools/commands.txt
-
 # The crate at the end of the longest path of crates.txt, as its proofs take time.
 LONGEST_CRATE=x86_layout
-
 # The bytes of text from which on `rt try` reads no further.
 TRY_MAX=67108864
 
@@ -61,7 +58,6 @@ sums() {
     find_files "$(source_paths)" -print0 | LC_ALL=C sort -z | (cd "$top" && xargs -0 sha256sum)
 }
 
-# sum: the SHA-256 of standard input.
 sum() {
     sha256sum | cut -d ' ' -f 1
 }
@@ -122,7 +118,7 @@ is_as_seen() {
 # is_as_receipt: whether the sources and the program have the sums of the receipt. Where not, `why` says which is another. Where they have, the next
 # start needs no sums, unless a file is so new that another change might bear the same time.
 is_as_receipt() {
-    paths="$(source_paths) ${program#"$top/"}"
+    paths="$(source_paths) ${program#"$top/"} ${receipt#"$top/"}"
     seen=$(listing "$paths")
     now=$(sums)
     if [ "$(printf '%s\n' "$now" | sum)" != "$(of_receipt sources)" ]; then
@@ -160,7 +156,6 @@ say() {
     echo "$script: $*" >&2
 }
 
-# Says why there is no answer.
 fail() {
     say "$*"
     exit 100
@@ -186,42 +181,55 @@ report_terminal() {
 
 # Writes what `rt ci` prints to the log, and a line for each crate that is proved.
 report() {
-    began=$(date +%s)
-    count=$(crates $PROGRAM_CRATE | wc -l)
-    number=0
+    began=$(date +%s) count=$(crates $PROGRAM_CRATE | wc -l) number=0
     while IFS= read -r line; do
         printf '%s\n' "$line" >>"$log"
         case $line in
-        "rt: "*" proved" | "rt: "*" is kept: "*) ;;
-        *) continue ;;
+        "rt: "*" proved" | "rt: "*" is kept: "*)
+            number=$((number + 1)) crate=${line#rt: }
+            say "$number of $count proved: ${crate%% *}, $((($(date +%s) - began) / 60)) min"
+            ;;
         esac
-        number=$((number + 1))
-        crate=${line#rt: }
-        say "$number of $count proved: ${crate%% *}, $((($(date +%s) - began) / 60)) min"
     done
+}
+
+# beside CALL: runs a call in a shell of its own, which has a folder `work` and notes its jobs in `jobs`, and waits for it. What ends this process ends
+# these too, also a signal to its id alone, which a shell heeds at once while it waits.
+beside() {
+    trap 'kill $! && wait $!; exit 1' HUP INT TERM
+    {
+        jobs= work=
+        trap 'kill $jobs 2>/dev/null; wait; rm -rf "$work"' EXIT
+        # A second signal, where one comes to all processes of the group, must not end what this one begins.
+        trap 'trap "" HUP INT TERM; exit 1' HUP INT TERM
+        work=$(mktemp -d) && "$@"
+    } &
+    wait $!
 }
 
 # Proves the crates side by side, and builds the program, by `rt ci` in a copy that is laid out. The kit keeps each crate once it is proved, for
 # the gate, for other clones, and for the start after one that was broken off.
-prove() (
-    copy=$(mktemp -d) || exit 1
-    beside=
-    trap '[ -z "$beside" ] || { kill "$beside"; wait "$beside"; } 2>/dev/null; rm -rf "$copy"' EXIT
-    trap 'exit 1' HUP INT TERM
-    copy_crates "$copy" $PROGRAM_CRATE
-    for crate in "$copy"/crates/*; do (cd "$crate" && rt fmt); done >>"$log" 2>&1
+prove() {
+    copy_crates "$work/copy" $PROGRAM_CRATE
+    for crate in "$work/copy/crates"/*; do (cd "$crate" && rt fmt); done >>"$log" 2>&1
+    cd "$work/copy" && mkfifo "$work/lines" || exit 1
+    report <"$work/lines" &
+    jobs=$!
+    rt ci </dev/null >"$work/lines" 2>&1 &
+    jobs="$jobs $!"
     # How many processors a proof has is fixed as it begins: by a second run on the longest path its proofs have two each.
-    (cd "$copy" && exec rt ci $LONGEST_CRATE </dev/null >/dev/null 2>&1) &
-    beside=$!
-    (cd "$copy" && rt ci </dev/null 2>&1) | report
-    wait "$beside"
-    beside=
-    grep -qE "^rt: $PROGRAM_CRATE (proved$|is kept: )" "$log" && mkdir -p "$out" && cp "$copy/crates/$PROGRAM_CRATE/out/$PROGRAM_CRATE" "$program"
-)
+    rt ci $LONGEST_CRATE </dev/null >/dev/null 2>&1 &
+    jobs="$jobs $!"
+    wait
+    grep -qE "^rt: $PROGRAM_CRATE (proved$|is kept: )" "$log" && mkdir -p "$out" && cp "crates/$PROGRAM_CRATE/out/$PROGRAM_CRATE" "$program"
+}
 
 # Proves what changed, over the work that `rt check` or `rt run` of the program's crate left in this clone.
 prove_changes() {
-    (cd "$top/crates/$PROGRAM_CRATE" && rt run -- $sample) </dev/null >>"$log" 2>&1
+    cd "$top/crates/$PROGRAM_CRATE" || exit 1
+    rt run -- $sample </dev/null >>"$log" 2>&1 &
+    jobs=$!
+    wait $jobs
 }
 
 # note START FILE [PROGRAM WORD..]: says what is wrong with the beginning of a text, where perl is there (tools/note).
@@ -258,8 +266,9 @@ build() {
     before=$(sums)
     rm -f "$receipt" "$out/seen" "$program"
     : >"$log"
-    say "\`./$script try $*\` answers without a proof, within a minute. Proving and building the program takes 10 to 25 minutes from nothing, 4 GB of memory and 3 GB of disk (see $log)"
-    if [ -d "$out/incremental" ]; then prove_changes; else prove; fi && [ -x "$program" ] && write_receipt "$before" "$log"
+    takes="10 to 25 minutes from nothing, 4 GB of memory and 3 GB of disk"
+    say "\`./$script try $*\` answers without a proof, within a minute. Proving and building the program takes $takes (see $log)"
+    if [ -d "$out/incremental" ]; then beside prove_changes; else beside prove; fi && [ -x "$program" ] && write_receipt "$before" "$log"
 }
 
 # start WORDS..: runs the program, which is proved and built first where it isn't that of the receipt, the sources and the kit. Where `is_tried` is

@@ -8,6 +8,7 @@ import re
 import shutil
 import subprocess
 import sys
+import tempfile
 from pathlib import Path
 
 TOP = Path(__file__).resolve().parent.parent
@@ -25,9 +26,10 @@ class Missing(Exception):
     """A name that the sources don't define as they should."""
 
 
-def built(crate, variable):
-    """The program of a crate, as the gate or a start left it, or the one that a variable names."""
-    return Path(os.environ.get(variable) or CRATES / crate / "out" / crate).resolve()
+# The programs, as the gate or a start left them, or those that two variables name; and the starts that build them.
+PROGRAM = Path(os.environ.get("PROGRAM") or CRATES / "x86/out/x86").resolve()
+SHOW = Path(os.environ.get("SHOW") or CRATES / "x86_show/out/x86_show").resolve()
+STARTS = {PROGRAM: "./x86 list", SHOW: "./show"}
 
 
 @functools.cache
@@ -36,10 +38,25 @@ def packages():
     return dict(line.split() for line in (TOP / "tools" / "packages").read_text().splitlines())
 
 
-def package(*tools):
-    """That the package of one of these tools is missing, or None."""
+def lacking(*tools):
+    """The first of these tools that is missing, by its package or by what builds it; or None."""
     missing = next((tool for tool in tools if shutil.which(tool) is None), None)
-    return missing and f"the package {packages().get(missing, missing)} is missing"
+    if missing in STARTS:
+        return f"{missing} ({STARTS[missing]} </dev/null builds it)"
+    return f"the package {packages()[missing]}" if missing in packages() else missing
+
+
+def skip(lacks, what):
+    """Says what isn't tried for want of something, which the gate counts."""
+    print(f"{Path(sys.argv[0]).stem}: skipped, {lacks} is missing: {what}", file=sys.stderr)
+
+
+def counted(command, given, *options):
+    """A run of a command over an open file by callgrind, and the numbers of its report by their names."""
+    with tempfile.NamedTemporaryFile() as out:
+        words = ["valgrind", "--tool=callgrind", f"--callgrind-out-file={out.name}", *options, *command]
+        ran = subprocess.run(words, stdin=given, capture_output=True, text=True, errors="replace")
+    return ran, {name: int(count.replace(",", "")) for name, count in re.findall(r"(\w+): +([\d,]+)", ran.stderr)}
 
 
 # The code whose changes make a figure older: all but the tests.
@@ -65,7 +82,7 @@ def short(path):
 @functools.cache
 def errors():
     """The text of each error of a decode, by its name."""
-    return dict(re.findall(r'^description_of (\w+) = codes "(.*)"$', (CRATES / "x86_fields" / "specs" / "Errors.antt").read_text(), re.M))
+    return dict(re.findall(r'^description_of (\w+) = codes "(.*)"$', (CRATES / "x86_fields/specs/Errors.antt").read_text(), re.M))
 
 
 def error_macros():
@@ -88,6 +105,28 @@ def parts_of(code):
     rest = code.lstrip(LEGACY + REX)
     escape = next(it for it in ESCAPES if rest.startswith(it))
     return code[: len(code) - len(rest)], ESCAPES[escape], rest[len(escape) :]
+
+
+def code_of(path):
+    """The section .text of an ELF file, or nothing."""
+    with tempfile.TemporaryDirectory() as folder:
+        raw = Path(folder) / "raw"
+        subprocess.run(["objcopy", "-O", "binary", "-j", ".text", path, raw], stderr=subprocess.DEVNULL)
+        return raw.read_bytes() if raw.exists() else b""
+
+
+def print_row(*cells):
+    """Prints the row of a table, a number with commas."""
+    print("| " + " | ".join(f"{cell:,}" if isinstance(cell, int) else str(cell) for cell in cells) + " |", flush=True)
+
+
+# What lists bytes.
+OBJDUMP = "objdump -D -w -b binary -m i386:x86-64 -M intel".split()
+
+
+@functools.cache
+def objdump_version():
+    return subprocess.run(["objdump", "--version"], stdout=subprocess.PIPE, text=True).stdout.split("\n")[0].split()[-1]
 
 
 def dumped(*words, folder=None):
@@ -131,6 +170,14 @@ def reasons():
     return dict.fromkeys(re.findall(r'^    \{"([^"]+)", "', (TOP / "tools" / "judge" / "reasons.c").read_text(), re.M))
 
 
+def reasons_without_rows(of_show):
+    """A sentence for each reason of a judge of tools/compare without a row in its section of a page, and for each row without a reason."""
+    sections = ("docs/DIFFERENCES.md", "Other answers than zydis", reasons()), ("docs/USAGE.md", "The listing for people", of_show)
+    for page, heading, names in sections:
+        rows = re.findall(r"^\| (?!reason )([^|-][^|]*?) \|", section((TOP / page).read_text(), heading), re.M)
+        yield from (f"{page}: a reason of tools/judge without a row, or a row without one: {name}" for name in sorted({*rows} ^ {*names}))
+
+
 def indent(line):
     return len(line) - len(line.lstrip(" "))
 
@@ -151,8 +198,7 @@ def is_part(lines, number):
 
 def module_file(words):
     """The file of a module of specs/ or of proofs/, or None for a library's."""
-    crate, folder, rest = words[0], words[1], words[2:]
-    return f"{crate}/{folder}/{'/'.join(rest)}.antt" if (CRATES / crate).is_dir() else None
+    return f"{'/'.join(words)}.antt" if (CRATES / words[0]).is_dir() else None
 
 
 @functools.cache
@@ -176,7 +222,9 @@ class Module:
         self.passed_on = set()
         self.read_imports("\n".join(self.lines))
         self.spans = self.find_definitions() if lines or path.endswith(".antt") else {}
-        self.cases = self.find_cases()
+        # the data that each case is of
+        bodies = ((name, self.lines[first + 1 : end]) for name, (first, end) in self.spans.items() if re.search(r"\bdata ", self.lines[first]))
+        self.cases = {match[1]: name for name, lines in bodies for line in lines if (match := re.match(r" *(\w+) : ", line))}
 
     def read_imports(self, text):
         for kind, target, names, alias in re.findall(r"^(pub |ghost )?use Rattle\.([\w.]+?)(?:\.\{([^}]*)\}| as (\w+));?$", text, re.M):
@@ -204,13 +252,9 @@ class Module:
             spans[head[3]] = (number, end)
         return spans
 
-    def find_cases(self):
-        """The data that each case is of."""
-        bodies = ((name, self.lines[first + 1 : end]) for name, (first, end) in self.spans.items() if re.search(r"\bdata ", self.lines[first]))
-        return {match[1]: name for name, lines in bodies for line in lines if (match := re.match(r" *(\w+) : ", line))}
-
     def continues(self, head, number):
-        """Whether a line belongs to the definition above it: it is indented more, closes it, says what it unfolds, is an equation of it, or a comment before such a line."""
+        """Whether a line belongs to the definition above it: it is indented more, closes it, says what it unfolds, is an equation of it, or a comment on
+        such a line."""
         line = self.lines[number]
         if line.lstrip().startswith("--") and indent(line) == len(head[1]):
             return number + 1 < len(self.lines) and self.continues(head, number + 1)

@@ -2,7 +2,7 @@
 """Writes the tables that only repeat what eight lists say, so that a name, a form, a row or a command is edited in one place.
 
     python3 tools/tables.py            writes them
-    python3 tools/tables.py --check    changes nothing; says which are not what it would write, and then ends with status 1
+    python3 tools/tables.py --check    says which are not what it would write
 
 The lists, which people edit:
 
@@ -16,13 +16,10 @@ The lists, which people edit:
     tools/commands.txt                         the commands, a line each: its words, and after two blanks what it does
 
 tools/form_rows.py has the tables of rows, and which of them form, mod and reg alone choose; tools/byte_rows.py has the rows of opcode bytes without a
-legacy prefix. The script writes the lines of data alone: imports, heads of tables, functions and comments of the files are edited by hand.
-
-Nothing rests on this script. What it writes is checked like all other code: that the constants have the numbers and
-spellings of their names, that each form is at its ordinal, and that each table has the words of the rows, is proved.
-A wrong entry is refused, whether the script or a hand wrote it.
+legacy prefix. The script writes the lines of data alone. It is proved that they are those of the lists, so a wrong entry is refused.
 """
 
+import functools
 import re
 import sys
 import textwrap
@@ -48,22 +45,21 @@ def lines_of(path, first, last, pattern):
         yield read.groups()
 
 
-def names():
-    """The opcodes in the order of their numbers, each named as it is spelled."""
-    return [name for (name,) in lines_of("x86_opcodes/specs/Mnemonics.antt", "all_names =", r"    \[\]", r'    is opcode\.(\w+) \(codes "\1"\) ∷')]
-
-
+@functools.cache
 def numbers():
-    """The number of each opcode by its name."""
-    return {name: number for number, name in enumerate(names())}
+    """The number of each opcode by its name, as it is spelled, in their order."""
+    lines = lines_of("x86_opcodes/specs/Mnemonics.antt", "all_names =", r"    \[\]", r'    is opcode\.(\w+) \(codes "\1"\) ∷')
+    return {name: number for number, (name,) in enumerate(lines)}
 
 
+@functools.cache
 def forms():
     """The forms in the order of their ordinals, each with whether it carries a number."""
     lines = lines_of("x86_forms/src/lib.rt", r"pub enum Form \{", r"\}", r"    (\w+)(\(u8\))?,")
     return {form: bool(field) for form, field in lines}
 
 
+@functools.cache
 def ordinals():
     """How many forms, with all their numbers, come before each form."""
     ordinal, answer = 0, {}
@@ -73,6 +69,7 @@ def ordinals():
     return answer
 
 
+@functools.cache
 def rows():
     """The rows of each map: the columns, the byte, the opcode, the form and the number that it carries."""
     pattern = r"    in_(\w+) 0x(..) opcode\.(\w+) \(?form\.(\w+)(?: ([0-7])\))? ∷"
@@ -89,7 +86,7 @@ def registers():
 
 def strangers():
     """The rows that have a name or a form that its list hasn't, a line for each."""
-    known, ordinal = {*names()}, ordinals()
+    known, ordinal = {*numbers()}, ordinals()
     for of, map_rows in rows().items():
         for _, byte, opcode, form, _ in map_rows:
             if opcode not in known:
@@ -131,17 +128,17 @@ def filled(text, tables, counts=None):
 
 
 def names_antt(text):
-    values = [line for number, name in enumerate(names()) for line in (f"abbrev pub {name} : ℕ", f"{name} = {number}", "")]
+    values = [line for name, number in numbers().items() for line in (f"abbrev pub {name} : ℕ", f"{name} = {number}", "")]
     text = between(text, r"use Rattle\.std.*\n", "-- every opcode in the order of the numbers", values)
-    return between(text, "every_opcode =", r"    \[\]", [f"    {name} ∷" for name in names()])
+    return between(text, "every_opcode =", r"    \[\]", [f"    {name} ∷" for name in numbers()])
 
 
 def names_rt(text):
-    values = [line for number, name in enumerate(names()) for line in (f"    pub const {name}: Opcode = Opcode {{ number: {number} }};", "")]
+    values = [line for name, number in numbers().items() for line in (f"    pub const {name}: Opcode = Opcode {{ number: {number} }};", "")]
     text = between(text, r"impl Opcode \{", "    /// How many names.*", values)
-    text = re.sub(r"(?m)(COUNT: usize = )\d+;$", rf"\g<1>{len(names())};", text)
-    for part in range(0, len(names()), PART):
-        of = names()[part : part + PART]
+    text = re.sub(r"(?m)(COUNT: usize = )\d+;$", rf"\g<1>{len(numbers())};", text)
+    for part in range(0, len(numbers()), PART):
+        of = [*numbers()][part : part + PART]
         lines = textwrap.wrap(" ".join(of), 100, initial_indent="    ", subsequent_indent="    ")
         text = filled(text, {f"NAMED_{part // PART}": lines}, {f"NAMED_{part // PART}": len(of)})
     return text
@@ -163,10 +160,10 @@ def ordinals_rt(text):
 
 def words_table(map_rows, column):
     """The words of a column by the byte, where the first of several rows counts: eight on a line, followed by the byte of the first."""
-    number_of, ordinal, words = numbers(), ordinals(), [0] * 256
+    words = [0] * 256
     for columns, byte, opcode, form, number in reversed(map_rows):
         if has_column(columns, column):
-            words[byte] = 256 * number_of[opcode] + 1 + ordinal[form] + number
+            words[byte] = 256 * numbers()[opcode] + 1 + ordinals()[form] + number
     return ["    " + ", ".join(f"0x{word:05x}" for word in words[byte : byte + 8]) + f", // {byte:02X}" for byte in range(0, 256, 8)]
 
 
@@ -177,22 +174,20 @@ def tables_rt(text):
 
 
 def name_lines(size, texts):
-    """Names in blocks of a size."""
     return [f'    name!(b"{text:<{size}}", {len(text)}),' for text in texts]
 
 
 def entries():
     """The text and the letters by which `show` writes each operation: those of its line in the list, else its name in lower case and dashes."""
     pattern = r'    row opcode\.(\w+) (?:\[\]|\(codes "([^"]+)"\)) \(codes "(.{6})"\) ∷'
-    listed = {name: (spelled, letters) for name, spelled, letters in lines_of("x86_objdump/specs/Text/Entries.antt", "rows =", r"    \[\]", pattern)}
-    for name in names():
+    listed = {name: of for name, *of in lines_of("x86_objdump/specs/Text/Entries.antt", "rows =", r"    \[\]", pattern)}
+    for name in numbers():
         spelled, letters = listed.get(name, (None, "-" * 6))
         text = spelled or name.lower()
         yield f'    entry!(b"{text:<16}", {len(text)}, b"{letters}"),'
 
 
 def with_usage(text):
-    """A text with the usage line of the program."""
     words = [line.split("  ")[0] for line in (TOP / "tools" / "commands.txt").read_text().splitlines()]
     return re.sub(r'(?<="usage: ).*(?=")', " | ".join(words), text)
 
@@ -209,10 +204,6 @@ def group_tables_rt(text):
     return rows_rt(text, form_rows.GROUPS, more, {"CELLS": len(more["CELLS"]) // 18})
 
 
-def byte_tables_rt(text):
-    return filled(text, {of.upper(): byte_rows.byte_rows(rows()[of], ordinals(), numbers()) for of in MAPS[:2]})
-
-
 WRITTEN = {
     "x86_opcodes/specs/Names.antt": names_antt,
     "x86_opcodes/src/names.rt": names_rt,
@@ -221,8 +212,9 @@ WRITTEN = {
     "x86_forms/src/tables.rt": tables_rt,
     "x86_operands/src/tables.rt": lambda text: rows_rt(text, form_rows.PLAIN, {"HEADS": form_rows.heads(forms())}),
     "x86_groups/src/tables.rt": group_tables_rt,
-    "x86_groups/src/byte_tables.rt": byte_tables_rt,
-    "x86_text/src/mnemonics.rt": lambda text: filled(text, {"MNEMONICS": name_lines(16, names())}),
+    "x86_groups/src/byte_tables.rt": lambda text: filled(
+        text, {of.upper(): byte_rows.byte_rows(rows()[of], ordinals(), numbers()) for of in MAPS[:2]}),
+    "x86_text/src/mnemonics.rt": lambda text: filled(text, {"MNEMONICS": name_lines(16, numbers())}),
     "x86_text/src/registers.rt": lambda text: filled(text, {of.upper(): name_lines(8, texts) for of, texts in registers()}),
     "x86_text/src/sizes.rt": lambda text: filled(text, {"SIZES": name_lines(4, [f" m{'?' if it == form_rows.UNDECIDED else it}" for it in range(65)])}),
     "x86_objdump/src/text/tables.rt": lambda text: filled(text, {"ENTRIES": [*entries()]}),
@@ -232,9 +224,7 @@ WRITTEN = {
 
 
 def written():
-    """The texts of the files."""
-    found = [*strangers()]
-    if found:
+    if found := [*strangers()]:
         sys.exit("\n".join(f"tables.py: {line}" for line in found))
     return {CRATES / path: text_of((CRATES / path).read_text()) for path, text_of in WRITTEN.items()}
 

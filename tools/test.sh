@@ -33,6 +33,16 @@ wrongly() {
     : >"$work/wrong"
 }
 
+# ends STATUS TEXT COMMAND..: a command must end with this status, and say on standard error what has this text.
+ends() {
+    wanted=$1 text=$2
+    shift 2
+    "$@" >"$work/stdout" 2>"$work/said"
+    got=$?
+    [ $got -eq "$wanted" ] || wrongly "status $got and not $wanted, with $(cat "$work/said"): $text"
+    grep -qE -e "$text" "$work/said" || wrongly "it says $(cat "$work/said"), and not: $text"
+}
+
 # finish WHAT: ends the test, and says so where nothing is wrong.
 finish() {
     [ ! -e "$work/wrong" ] || exit 1

@@ -8,11 +8,7 @@ The pages are edited in place. Each block of code in THEOREM.md is of the defini
 in the sources, of a law with all clauses, of another function with those that are there. So a new one is added by its first line. In DEFINITIONS.md it
 writes the names in the lines `- [FILE](..): ..`: those of the file that a definition of the pages uses or a text names, and that THEOREM.md doesn't
 show. A name that is new there is put into the last line of its file. `LAW.CLAUSE` is a law of which one clause counts. The rows of **Linked** have the
-names that aren't shown, or `all` of a file. The index has where each name of both pages is.
-
-A name that a definition or a clause uses must be shown, linked, or explained in Notation, and has one definition; a name in
-the text of a page must be one of these too. A field that is shown has the name of a definition only where Notation says so.
-A clause of a table of THEOREM.md, PROVED.md or README.md must be one of the call that it names.
+names that aren't shown, or `all` of a file. The index has where each name of both pages is. `Pages.check` says what the pages must have.
 """
 
 import functools
@@ -33,10 +29,6 @@ WIDE = 136
 TWICE = re.compile(r"Fields that have the name of a function: ([^.]*)\.")
 # Words of the text that are no names of src/ or specs/.
 OTHER = set("strict data record run rows x86 list main h p f e x y r c d n k s t m v w i l unfolding".split())
-
-
-def fail(message):
-    sys.exit(f"theorem: {message}")
 
 
 def block(path, names):
@@ -82,8 +74,8 @@ def joined(lines):
 
 def owner(path, name):
     """The type whose method this is, or nothing."""
-    above = re.split(rf"^ +pub fn {name}\b", (CRATES / path).read_text(), maxsplit=1, flags=re.M)
-    return re.findall(r"^impl(?:<.*?>)? (\w+)", above[0], re.M)[-1] + "::" if len(above) > 1 else ""
+    above, *below = re.split(rf"^ +pub fn {name}\b", (CRATES / path).read_text(), maxsplit=1, flags=re.M)
+    return re.findall(r"^impl(?:<.*?>)? (\w+)", above, re.M)[-1] + "::" if below else ""
 
 
 def in_one_line(lines):
@@ -96,7 +88,7 @@ def item(path, name, shown=()):
     lines = (CRATES / path).read_text().split("\n")
     starts = [at for at, line in enumerate(lines) if re.match(rf" *pub (?:fn|struct|enum|trait) {name}\b", line)]
     if len(starts) != 1:
-        fail(f"{path} has {len(starts)} items that are called {name}")
+        raise Missing(f"{path} has {len(starts)} items that are called {name}")
     first, margin = lines[starts[0]], indent(lines[starts[0]])
     ends = ("{", "{}") if "pub fn" in first else ("}",)
     end = next(at for at in range(starts[0] + 1, len(lines)) if lines[at].strip() in ends and indent(lines[at]) == margin)
@@ -135,7 +127,7 @@ def shown_in(lines):
         clauses = re.findall(r"^ *ensures (\w+) \{", "\n".join(lines[at + 1 :]).split("\npub ")[0], re.M) if function else None
         paths = function_files(name, clauses) if function else homes().get(name, [])
         if len(paths) != 1:
-            fail(f"{THEOREM} shows {name}, which {len(paths)} files define: {' '.join(paths)}")
+            raise Missing(f"{THEOREM} shows {name}, which {len(paths)} files define: {' '.join(paths)}")
         if not function and parts and parts[-1][0] == paths[0]:
             parts[-1][1].append(name)
         else:
@@ -180,10 +172,10 @@ class Pages:
         self.headings = read[THEOREM][1] | read[DEFINITIONS][1]
         every = [part for page in PAGES for part in self.parts[page]]
         self.listed = [part for part in every if part.kind == "listed" and part.path.endswith(".antt")]
-        # where each definition is shown or linked: its file and name to a link
-        self.places, self.linked, self.types, self.std = {}, {}, {}, set()
-        # the members of shown traits and the functions, to a link; the fields of shown records and structs; what is used of the files of DEFINITIONS.md
-        self.members, self.fields, self.used = {}, set(), {part.path: set() for part in self.listed}
+        # Definitions, types, and members of traits and functions, each by its file and name, with a link to where it is shown.
+        self.places, self.linked, self.types, self.members = {}, {}, {}, {}
+        # The fields of shown records and structs, names of std, and what is used of the files of DEFINITIONS.md.
+        self.fields, self.std, self.used = set(), set(), {part.path: set() for part in self.listed}
         todo = self.read(every)
         named = set(re.findall(r"`([\w\-]+)", "\n".join(line for part in every if part.kind == "text" for line in part.lines)))
         todo += [(part.path, name) for part in self.listed for name in part.names if name in named and name in module(part.path).spans]
@@ -237,7 +229,7 @@ class Pages:
                     self.places[key] = None
                     continue
                 if path not in self.used:
-                    fail(f"{name} is neither shown nor linked: {path}, used by {users.get(key, 'a clause')}")
+                    raise Missing(f"{name} is neither shown nor linked: {path}, used by {users.get(key, 'a clause')}")
                 self.used[path].add(name)
             if re.match(r" *(pub )?record ", module(path).text(name)[0]):
                 self.fields |= {match[1] for line in module(path).text(name) if (match := re.match(r" +(?:pub )?(\w+) : ", line))}
@@ -261,7 +253,7 @@ class Pages:
             new = self.used[part.path] - {name for other in of for name in other.names} if part is of[-1] else set()
             part.names = [name for name in module(part.path).spans if name in self.used[part.path] and (name in part.names or name in new)]
             if not part.names:
-                fail(f"nothing uses what {part.path} defines: take its line out of {DEFINITIONS}")
+                raise Missing(f"nothing uses what {part.path} defines: take its line out of {DEFINITIONS}")
             for name in part.names:
                 self.places.setdefault((part.path, name), part.link)
 
@@ -290,34 +282,34 @@ class Pages:
     def text(self, page):
         return "\n".join(line for part in self.parts[page] for line in self.written(part)) + "\n"
 
-    # ---- what a page must have
-
     def names(self):
         whole = [path for path, name in self.linked if name == "*"]
         return {name for _, name in [*self.places, *self.types, *self.linked]} | {name for path in whole for name in module(path).spans}
 
     def check(self, texts):
+        """A name that a definition or a clause uses is shown, linked, or explained in Notation, and has one definition."""
         for path, name in sorted({*self.places, *self.types}, key=lambda key: key[1]):
             others = {path, *homes().get(name, ()), *(at for at, other in [*self.places, *self.types] if other == name)}
             if len(others) > 1:
-                fail(f"{name} has two definitions: {' and '.join(sorted(others))}")
+                raise Missing(f"{name} has two definitions: {' and '.join(sorted(others))}")
         notation = "".join(section(text, "Notation") for text in texts.values())
         self.check_fields(notation)
         explained = set(re.findall(r"[\w\-]+", "".join(re.findall(r"`[^`]*`", notation))))
         for name in sorted(self.std - explained):
-            fail(f"Notation doesn't explain {name}, a name of std")
+            raise Missing(f"Notation doesn't explain {name}, a name of std")
         self.check_text(texts, explained)
-        check_clauses({page: texts.get(page) or (TOP / page).read_text() for page in ("docs/THEOREM.md", "docs/PROVED.md", "README.md")})
-        if len(texts["docs/THEOREM.md"].splitlines()) > MOST:
-            fail(f"docs/THEOREM.md has {len(texts['docs/THEOREM.md'].splitlines())} lines, and may have {MOST}")
+        check_clauses({page: texts.get(page) or (TOP / page).read_text() for page in (THEOREM, "docs/PROVED.md", "README.md")})
+        if (count := len(texts[THEOREM].splitlines())) > MOST:
+            raise Missing(f"{THEOREM} has {count} lines, and may have {MOST}")
 
     def check_fields(self, notation):
+        """A field that is shown has the name of a definition only where Notation says so."""
         said = set(re.findall(r"`(\w+)`", "".join(TWICE.findall(notation))))
         twice = self.fields & (self.names() | self.std)
         for name in sorted(twice - said):
-            fail(f"a field has the name of a definition, {name}, and Notation doesn't say so")
+            raise Missing(f"a field has the name of a definition, {name}, and Notation doesn't say so")
         for name in sorted(said - twice):
-            fail(f"Notation says that fields have the name of a function {name}, and none has")
+            raise Missing(f"Notation says that fields have the name of a function {name}, and none has")
 
     def check_text(self, texts, explained):
         known = self.names() | explained | OTHER | self.fields | fields_and_functions(texts)
@@ -325,7 +317,7 @@ class Pages:
             prose = "\n".join(line for line in text.splitlines() if not line.startswith("    "))
             for word in re.findall(r"`([A-Za-z_][\w\-]*)(?:`| )", prose):
                 if word not in known and not re.fullmatch(r"[0-9a-f]{2}", word):
-                    fail(f"{page} has the name {word} in its text, which is neither shown nor linked")
+                    raise Missing(f"{page} has the name {word} in its text, which is neither shown nor linked")
 
 
 def line_of(path, name):
@@ -344,35 +336,28 @@ def fields_and_functions(texts):
     return found | {word for text in source_texts("src").values() for word in re.findall(r"(?:\b(?:fn|trait|struct|enum|const) |^    )(\w+)", text, re.M)}
 
 
-def clauses():
-    """The clauses of each function of src/, by its name."""
-    found = {}
-    for part in (part for text in source_texts("src").values() for part in re.split(r"\bfn (?=\w)", text)[1:]):
-        head = re.split(r"^ *\{\}?$", part, maxsplit=1, flags=re.M)[0]
-        found.setdefault(re.match(r"\w+", head)[0], set()).update(re.findall(r"^ *ensures (\w+) \{", head, re.M))
-    return found
-
-
 def check_clauses(texts):
     """Each `call.clause` in a table of these pages is a clause of a function of that name."""
-    of = clauses()
+    of = {}
+    for part in (part for text in source_texts("src").values() for part in re.split(r"\bfn (?=\w)", text)[1:]):
+        head = re.split(r"^ *\{\}?$", part, maxsplit=1, flags=re.M)[0]
+        of.setdefault(re.match(r"\w+", head)[0], set()).update(re.findall(r"^ *ensures (\w+) \{", head, re.M))
     for page, text in texts.items():
         table = "\n".join(line for line in text.splitlines() if line.startswith("|"))
         for call, clause in re.findall(r"`([a-z_]+)\.([a-z_]+)`", table):
             # `answers.accepted` is a field of the clause `answers`, and no function with clauses
-            if clause not in (of.get(call) or ({clause} if page != "docs/THEOREM.md" else ())):
-                fail(f"{page} names {call}.{clause}, and no call has that clause")
+            if clause not in (of.get(call) or ({clause} if page != THEOREM else ())):
+                raise Missing(f"{page} names {call}.{clause}, and no call has that clause")
 
 
 def written():
-    """The texts of the pages."""
-    try:
-        pages = Pages()
-        texts = {page: pages.text(page) for page in PAGES}
-    except Missing as missing:
-        fail(missing)
+    pages = Pages()
+    texts = {page: pages.text(page) for page in PAGES}
     pages.check(texts)
     return {TOP / page: text for page, text in texts.items()}
 
 
-write(written)
+try:
+    write(written)
+except Missing as missing:
+    sys.exit(f"theorem: {missing}")

@@ -92,10 +92,9 @@ static void take_base(const struct code *code, struct reading *reading)
 
 static void swap(struct reading *reading)
 {
-    struct operand first = reading->operands[0];
     if (reading->count != 2) return;
-    reading->operands[0] = reading->operands[1];
-    reading->operands[1] = first;
+    put(reading, 0, reading->operands[1]);
+    reading->count = 2;
 }
 
 /* `PFSQRT=PFRSQRT` is another name for one of the names at the row. */

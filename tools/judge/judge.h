@@ -31,15 +31,12 @@ struct reading {
 
 enum { UNDECIDED = 63 };
 
-/* reading.c */
 bool decode(const ZydisDecoder *decoder, const unsigned char *bytes, size_t left, struct reading *reading, ZyanStatus *status);
 void read_as_here(struct reading *reading);
 int reading_text(size_t place, const struct reading *reading, char *text, size_t room);
-
-/* rules.c */
-void prepare_rules(void);
 void expect(const ZydisDecoder *decoder, const struct code *code, struct reading *reading);
 void print_reasons(void);
+void change(const struct code *code, struct reading *reading, const char *words);
 
 /* The tables of reasons. rows.py says what a row has. */
 struct rule {
@@ -48,8 +45,5 @@ struct rule {
 };
 
 extern struct rule refused[], read_otherwise[], changed[];
-
-/* changes.c */
-void change(const struct code *code, struct reading *reading, const char *words);
 
 #endif

@@ -11,10 +11,9 @@ import re
 import subprocess
 import sys
 
-from sources import LEGACY, REX
+from sources import LEGACY, OBJDUMP, REX, objdump_version, print_row, skip
 
 BASES = [0, 0x401000, 0xFFFFFFFF81000000]
-OBJDUMP = "objdump -D -w -z -b binary -m i386:x86-64 -M intel".split()
 HEADER = 7  # lines
 LINE = re.compile(rb"([0-9a-f]{1,16}):\t((?:[0-9a-f]{2} ){1,15}) *\t(.+)\n")
 LONE_REX = re.compile(rb"(?:rex(?:\.\w+)?\s*)+")
@@ -80,12 +79,10 @@ REASONS = {
 
 
 class Judge:
-    """Holds the lines over some code from a base on."""
-
     def __init__(self, code, base, theirs):
         self.code, self.base, self.theirs, self.counts, self.unlike = code, base, theirs, collections.Counter(), []
-        self.last, self.free = b"", 0  # the last line that was the same; the end of the lines that have a reason
-        self.at, self.other = 0, next(theirs, b"")
+        self.at, self.free = 0, 0  # the ends of the lines so far, and of those that have a reason
+        self.other = next(theirs, b"")
 
     def tell(self, what, *lines):
         self.unlike.append("\n    ".join([what, *(line.decode(errors="replace").rstrip("\n") for line in lines)]))
@@ -119,16 +116,8 @@ class Judge:
             if not self.is_free(there, own):
                 self.tell("objdump alone", line)
 
-    def end(self):
-        """The place at which the line ends that was the same."""
-        if self.last:
-            place, own, _ = self.parsed(self.last)
-            self.at, self.last = place + len(own), b""
-        return self.at
-
     def hold(self, line):
-        """Holds a line that isn't objdump's next line."""
-        at, parts = self.end(), self.parsed(line)
+        at, parts = self.at, self.parsed(line)
         if not parts or parts[0] != at or parts[1] != self.code[at : at + len(parts[1])]:
             self.tell(f"not the line at {self.base + at & 2**64 - 1:x}", line)
         if not parts:
@@ -136,12 +125,12 @@ class Judge:
         place, own, text = parts
         self.at = place + len(own)
         self.skip(place)
-        if not self.other or self.parsed(self.other)[0] != place:
+        if self.other and self.parsed(self.other)[0] == place:
+            self.compare(place, line, own, text)
+        else:
             self.counts["`show` alone"] += 1
             if not self.is_free(place, own):
                 self.tell("`show` alone", line)
-            return
-        self.compare(place, line, own, text)
 
     def compare(self, place, line, own, text):
         """Compares a line with that of objdump at the same place."""
@@ -163,18 +152,19 @@ class Judge:
             self.counts["lines"] += 1
             if line == self.other:
                 self.counts["at both"] += 1
-                self.last, self.other = line, next(self.theirs, b"")
+                self.at += len(line.split(b"\t")[1].split())
+                self.other = next(self.theirs, b"")
             else:
                 self.hold(line)
         self.skip(2**64)
-        if self.end() != len(self.code):
+        if self.at != len(self.code):
             self.tell(f"the listing ends at {self.at:x}")
 
 
 def held(ours, code, base, work):
     """The judge of the lines of `show` over some code, once it has them all."""
     (work / "raw").write_bytes(code)
-    with subprocess.Popen([*OBJDUMP, f"--adjust-vma={base:#x}", work / "raw"], stdout=subprocess.PIPE) as dump:
+    with subprocess.Popen([*OBJDUMP, "-z", f"--adjust-vma={base:#x}", work / "raw"], stdout=subprocess.PIPE) as dump:
         judge = Judge(code, base, (line.lstrip(b" ") for line in itertools.islice(dump.stdout, HEADER, None)))
         judge.hold_all(ours)
     return judge
@@ -188,27 +178,25 @@ def listed(words, code, work):
 
 
 def is_of_version():
-    version = subprocess.run(["objdump", "--version"], stdout=subprocess.PIPE, text=True).stdout.split("\n")[0]
-    if not version.endswith(" 2.40"):
-        print(f"compare: skipped, {version} isn't 2.40", file=sys.stderr)
-    return version.endswith(" 2.40")
+    if objdump_version() != "2.40":
+        skip("the package binutils of version 2.40", "the lines of `show`")
+    return objdump_version() == "2.40"
 
 
 def main(show, pieces, work):
     """Compares the listings of pieces of code, each with its name, at four bases. Returns the status, which is 0 where objdump is of another version."""
     if not is_of_version():
         return 0
-    heads = ["lines", "at both", "`show` alone", "objdump alone", *REASONS]
-    print("| code of | base | " + " | ".join(heads) + " | unexplained |\n|---|---|---|" + "---|" * len(heads))
-    count = 0
+    heads, count = ["lines", "at both", "`show` alone", "objdump alone", *REASONS], 0
+    print_row("code of", "base", *heads, "unexplained")
+    print("|---|---|---|" + "---|" * len(heads))
     for name, code in pieces:
         for base in [*BASES, 2**64 - len(code)]:
             with listed([show, f"{base:x}"], code, work) as ours:
                 judge = held(ours.stdout, code, base, work)
             if ours.returncode != 0:
                 judge.tell(f"the program ended with status {ours.returncode}")
-            cells = [name, f"{base:x}", *(f"{judge.counts[it]:,}" for it in heads), f"{len(judge.unlike):,}"]
-            print("| " + " | ".join(cells) + " |", flush=True)
+            print_row(name, f"{base:x}", *(judge.counts[it] for it in heads), len(judge.unlike))
             for what in judge.unlike[:20]:
                 print(f"unexplained: {name}: {what}", file=sys.stderr)
             count += len(judge.unlike)

@@ -1,12 +1,10 @@
-/* judge RAW < LINES: holds the lines of the program's `sweep` over the bytes of the file RAW against what zydis answers in the mode of 64 bits
- * with default settings. At each place the line is worked out from zydis's answer and the reasons of reasons.c, and must be the program's
- * line, byte for byte. It prints:
+/* judge RAW < LINES: holds the lines of the program's `sweep` over the bytes of the file RAW against what zydis answers in the mode of 64 bits with
+ * default settings. At each place the line is worked out from zydis's answer and the reasons of reasons.c, and must be the program's line, byte for
+ * byte. It prints, with tabs between:
  *
  *     unexplained PLACE BYTES | LINE | EXPECTED      for the first twenty lines that differ
  *     reason COUNT REASON                            for each rule that changed something
  *     counts LINES ACCEPTED REFUSED UNEXPLAINED
- *
- * each with tabs between. It ends with status 0, or 2 where RAW can't be read.
  */
 #include "judge.h"
 #include <err.h>
@@ -70,7 +68,6 @@ int main(int argc, char **argv)
     if (argc != 2) errx(2, "usage: judge RAW < LINES");
     if (file == NULL || ferror(file)) err(2, "%s", argv[1]);
     if (count > MOST) errx(2, "%s has more than %d bytes", argv[1], MOST);
-    prepare_rules();
     judge(bytes, count);
     return 0;
 }

@@ -92,8 +92,6 @@ ENDS = {"the last line cut short": lambda text: text[:-4], "the last line withou
 
 
 def any_byte(seed):
-    """A byte of some line as another one."""
-
     def changed(lines, at):
         chance = random.Random(seed)
         at = chance.randrange(len(lines))

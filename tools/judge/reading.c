@@ -1,5 +1,6 @@
 /* What zydis answers, as a line of the program. */
 #include "judge.h"
+#include <ctype.h>
 #include <stdio.h>
 #include <string.h>
 
@@ -37,9 +38,7 @@ static int size_of(const struct reading *reading)
 void read_as_here(struct reading *reading)
 {
     const char *name = ZydisMnemonicGetString(reading->read.mnemonic);
-    size_t at = 0;
-    for (; name[at] != '\0'; at++) reading->name[at] = name[at] >= 'a' && name[at] <= 'z' ? (char)(name[at] - 32) : name[at];
-    reading->name[at] = '\0';
+    for (size_t at = 0; at <= strlen(name); at++) reading->name[at] = (char)toupper(name[at]);
     reading->refusal = NULL;
     reading->length = reading->read.length;
     reading->count = reading->read.operand_count_visible;
@@ -50,7 +49,7 @@ void read_as_here(struct reading *reading)
 static int put_register(char *text, size_t room, ZydisRegister reg)
 {
     const char *name = ZydisRegisterGetString(reg);
-    return name[0] == 's' && name[1] == 't' ? snprintf(text, room, "st(%s)", name + 2) : snprintf(text, room, "%s", name);
+    return strncmp(name, "st", 2) == 0 ? snprintf(text, room, "st(%s)", name + 2) : snprintf(text, room, "%s", name);
 }
 
 static int put_memory(char *text, size_t room, const struct operand *operand)

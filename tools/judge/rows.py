@@ -37,7 +37,6 @@ def entry(table, number, conditions, of, opcode):
 
 
 def entries():
-    """The entries of all rows, in their order."""
     for head, rows in RULE.findall((Path(__file__).parent / "reasons.c").read_text()):
         table, number = (head, -1) if head else (table, number + 1)
         for part in "".join(re.findall('"(.*)"', rows)).split(";") if rows else ():

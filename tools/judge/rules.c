@@ -1,11 +1,8 @@
 /* Applies the reasons, and counts them. */
 #include "judge.h"
-#include <err.h>
 #include <stdio.h>
 #include <stdlib.h>
 #include <string.h>
-
-enum { AT_ONE = 24 };
 
 /* An opcode byte of a row, or a range of them. */
 struct where {
@@ -17,11 +14,10 @@ struct where {
 
 enum { REFUSED, OTHERWISE, CHANGED, TABLES };
 static struct rule *const rules[] = {refused, read_otherwise, changed};
-/* Those of all rows, as rows.py writes them, and those of each opcode byte, up to NULL. */
+/* Those of all rows, as rows.py writes them. */
 static const struct where rows[] = {
 #include "rows.h"
 };
-static const struct where *tables[TABLES][MAPS][256][AT_ONE + 1];
 
 static bool holds(const struct where *where, const struct code *code)
 {
@@ -33,13 +29,12 @@ static bool holds(const struct where *where, const struct code *code)
     return modrms[code->modrm >> 6] >> (code->modrm & 63) & 1;
 }
 
-/* The first rule of a table that holds, or NULL. */
-static struct rule *first(int number, const struct code *code)
+/* The next row of a table that holds, or NULL, after one or from the first one on. */
+static const struct where *next(int table, const struct code *code, const struct where *after)
 {
-    if (code->opcode < 0) return NULL;
-    const struct where **at = tables[number][code->map][code->opcode];
-    while (*at != NULL && !holds(*at, code)) at++;
-    return *at != NULL ? (*at)->rule : NULL;
+    for (const struct where *at = after ? after + 1 : rows; at < rows + sizeof rows / sizeof *rows; at++)
+        if (at->table == table && at->map == code->map && at->first <= code->opcode && code->opcode <= at->last && holds(at, code)) return at;
+    return NULL;
 }
 
 /* The code as which a row is read. */
@@ -70,12 +65,11 @@ static bool read_other(const ZydisDecoder *decoder, const struct code *code, con
 static void apply_changes(const struct code *code, struct reading *reading)
 {
     char before[512], after[512];
-    for (const struct where **at = tables[CHANGED][code->map][code->opcode]; *at != NULL; at++) {
-        if (!holds(*at, code)) continue;
+    for (const struct where *at = NULL; (at = next(CHANGED, code, at)) != NULL;) {
         reading_text(0, reading, before, sizeof before);
-        change(code, reading, (*at)->rule->words);
+        change(code, reading, at->rule->words);
         reading_text(0, reading, after, sizeof after);
-        if (strcmp(before, after) != 0) (*at)->rule->count++;
+        if (strcmp(before, after) != 0) at->rule->count++;
     }
 }
 
@@ -139,39 +133,25 @@ void expect(const ZydisDecoder *decoder, const struct code *code, struct reading
     ZyanStatus status;
     struct code other = *code;
     bool is_read = decode(decoder, code->bytes, code->left, reading, &status);
-    struct rule *rule = first(REFUSED, code);
-    if (rule) {
-        if (is_read) rule->count++;
+    const struct where *where = next(REFUSED, code, NULL);
+    if (where) {
+        if (is_read) where->rule->count++;
         refuse(decoder, code, NULL, ZYDIS_STATUS_DECODING_ERROR, reading);
         return;
     }
     if (is_read) read_as_here(reading);
-    rule = first(OTHERWISE, code);
-    if (rule) {
+    if ((where = next(OTHERWISE, code, NULL)) != NULL) {
         bool was_read = is_read;
         ZydisMnemonic was = reading->read.mnemonic;
-        other = other_code(code, rule->words);
+        other = other_code(code, where->rule->words);
         is_read = read_other(decoder, code, &other, reading, &status);
-        if (is_read && (!was_read || was != reading->read.mnemonic)) rule->count++;
+        if (is_read && (!was_read || was != reading->read.mnemonic)) where->rule->count++;
     }
     if (is_read) { apply_changes(code, reading); return; }
     if (status == ZYDIS_STATUS_ILLEGAL_LOCK) status = status_without_lock(decoder, &other, reading);
     refuse(decoder, code, &other, status, reading);
 }
 
-void prepare_rules(void)
-{
-    for (size_t k = 0; k < sizeof rows / sizeof *rows; k++)
-        for (int opcode = rows[k].first; opcode <= rows[k].last; opcode++) {
-            const struct where **at = tables[rows[k].table][rows[k].map][opcode];
-            int count = 0;
-            while (at[count] != NULL) count++;
-            if (count == AT_ONE) errx(2, "too many reasons at the opcode of: %s", rows[k].rule->rows);
-            at[count] = &rows[k];
-        }
-}
-
-/* A line for each rule that changed something: `reason COUNT REASON`, with a tab between. */
 void print_reasons(void)
 {
     for (int k = 0; k < TABLES; k++)
