@@ -29,7 +29,6 @@ context_of p = record {
   opcode = slice_index p.opcode 0;
   modrm = modrm_or_absent p.modrm;
   has_modrm = is_some_byte p.modrm;
-  has_sib = is_some_byte p.sib;
   prefixes = reading_of p.prefixes;
 }
 

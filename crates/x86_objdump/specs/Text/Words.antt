@@ -9,7 +9,7 @@ use Rattle.x86_regs.specs.declared.Segment.TheVariants.{DS}
 use Rattle.x86_regs.specs.Register.{num, class}
 use Rattle.x86_opcodes.specs.Kinds.{is_among}
 use Rattle.x86_opcodes.specs.Names.{MOVS, CMPS, STOS, LODS, SCAS, INS, OUTS, XLAT, JRCXZ, JECXZ, UMONITOR, FNSTSW, CMPXCHG16B}
-use Rattle.x86_fields.specs.ModRM.{is_memory, reg_field}
+use Rattle.x86_fields.specs.ModRM.{is_memory, reg_field, rm_field}
 use Rattle.x86_fields.specs.Raw.{has_w}
 use Rattle.x86_fields.specs.Run.{holds, is_rex, rep, repnz, rep_any}
 use Rattle.x86_fields.specs.declared.rex.PrefixRex.{PrefixRex}
@@ -170,10 +170,14 @@ names_new_byte i = is_new_byte (operand_at i 0) || is_new_byte (operand_at i 1)
 abbrev pub has_some_bit : PrefixRex → Bool
 has_some_bit rex = (rex.w || rex.r) || (rex.x || rex.b)
 
+-- X extends the index of a SIB
+abbrev pub reads_x : Context → Instruction → Bool
+reads_x c i = c.has_modrm && (names_memory i && (rm_field c.modrm == 4))
+
 -- each bit that is set is read, and a bit is set or a register is named that needs a REX
 abbrev pub rex_is_read : Context → Instruction → ℕ → PrefixRex → Bool
 rex_is_read c i l rex =
-    (not rex.w || reads_w l) && (not rex.x || c.has_sib) && (not rex.r || reads_r c i) && (not rex.b || reads_b c i)
+    (not rex.w || reads_w l) && (not rex.x || reads_x c i) && (not rex.r || reads_r c i) && (not rex.b || reads_b c i)
     && (has_some_bit rex || names_new_byte i)
 
 abbrev pub live_rex_is_read : Context → Instruction → ℕ → Option PrefixRex → Bool

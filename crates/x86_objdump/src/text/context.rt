@@ -19,8 +19,6 @@ pub struct Context {
     pub modrm: ModRM,
     /// Whether there is a ModRM.
     pub has_modrm: bool,
-    /// Whether there is a SIB.
-    pub has_sib: bool,
     /// What the prefixes select.
     pub prefixes: Prefixes,
 }
@@ -83,7 +81,6 @@ impl Context {
             opcode: first_of(parts.opcode),
             modrm: modrm_or_absent(parts.modrm),
             has_modrm: is_some_byte(parts.modrm),
-            has_sib: is_some_byte(parts.sib),
             prefixes,
         }
     }

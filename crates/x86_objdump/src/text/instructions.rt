@@ -106,6 +106,7 @@ fn put_selected(
     bytes: &[u8],
     parts: &Parts,
     prefixes: Prefixes,
+    is_common: bool,
     next: u64,
 ) -> usize
     requires decoded { answer_of (is_strict decoder.now) bytes.now ≡ Ok inst.now }
@@ -123,6 +124,7 @@ fn put_selected(
         inst,
         bytes,
         entry: entry_for(inst.opcode()),
+        is_common,
     };
     put_shown(cells, at, &shown, parts.prefixes, next)
 }
@@ -145,7 +147,9 @@ fn put_by_run(
 {
     let parts = split_decoded(decoder, inst, bytes);
     let prefixes = reading_of(parts.prefixes);
-    put_selected(cells, at, decoder, inst, bytes, &parts, prefixes, next)
+    put_selected(
+        cells, at, decoder, inst, bytes, &parts, prefixes, false, next,
+    )
 }
 
 /// Writes the text of an instruction, where the next instruction is at the address `next`. The decoder reads the bytes as
@@ -171,5 +175,7 @@ pub fn put_instruction(
         [byte] if is_rex(*byte) => Prefixes::none().after(*byte),
         _ => return put_by_run(cells, at, decoder, inst, bytes, next),
     };
-    put_selected(cells, at, decoder, inst, bytes, &parts, prefixes, next)
+    put_selected(
+        cells, at, decoder, inst, bytes, &parts, prefixes, true, next,
+    )
 }

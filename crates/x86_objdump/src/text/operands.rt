@@ -121,6 +121,7 @@ fn put_after_second(cells: &mut [u8], at: usize, shown: &Shown, others: &[Operan
         inst: shown.inst,
         bytes: shown.bytes,
         entry: shown.entry,
+        is_common: shown.is_common,
     };
     put_others(cells, at, &shown, 2, others)
 }
@@ -179,6 +180,27 @@ fn put_list(cells: &mut [u8], at: usize, shown: &Shown, operands: &[Operand]) ->
     }
 }
 
+/// Writes the first operands by calls: few instructions need it, so it is no second caller of `put_list`, which then is
+/// inlined.
+#[inline(never)]
+fn put_list_apart(cells: &mut [u8], at: usize, shown: &Shown, operands: &[Operand]) -> usize
+    requires read { IsRead shown.now }
+    requires few { length operands.now ≤ 4 }
+    requires room { at + 276 ≤ length cells.old }
+    ensures text { take result cells.new ≡ take at cells.old
+        ++ list_text shown.now.context.now shown.now.inst.now shown.now.entry.now (parts_in shown.now)
+        operands.now }
+    ensures short { result ≤ at + 212 }
+{
+    match operands {
+        [] => at,
+        [first, others @ ..] => {
+            let at = put_operand(cells, at, shown, shown.inst.slot(0), first);
+            put_others(cells, at, shown, 1, others)
+        }
+    }
+}
+
 /// Writes all operands as the decoder answers them.
 #[inline(always)]
 fn put_all(cells: &mut [u8], at: usize, shown: &Shown) -> usize
@@ -189,7 +211,12 @@ fn put_all(cells: &mut [u8], at: usize, shown: &Shown) -> usize
         (operands_of shown.now.inst.now) }
     ensures short { result ≤ at + 212 }
 {
-    put_list(cells, at, shown, shown.inst.operands())
+    let operands = shown.inst.operands();
+    if shown.is_common {
+        put_list(cells, at, shown, operands)
+    } else {
+        put_list_apart(cells, at, shown, operands)
+    }
 }
 
 /// The first operands, or all where there are fewer.
@@ -203,9 +230,7 @@ fn first_operands(operands: &[Operand], count: usize) -> &[Operand]
     }
 }
 
-/// Writes so many operands, or all where there are fewer. Few instructions need it, so it is no second caller of
-/// `put_list`, which then is inlined.
-#[inline(never)]
+/// Writes so many operands, or all where there are fewer.
 pub fn put_first_operands(cells: &mut [u8], at: usize, shown: &Shown, count: u8) -> usize
     requires read { IsRead shown.now }
     requires room { at + 276 ≤ length cells.old }
@@ -214,13 +239,8 @@ pub fn put_first_operands(cells: &mut [u8], at: usize, shown: &Shown, count: u8)
         count }
     ensures short { result ≤ at + 212 }
 {
-    match first_operands(shown.inst.operands(), count as usize) {
-        [] => at,
-        [first, others @ ..] => {
-            let at = put_operand(cells, at, shown, shown.inst.slot(0), first);
-            put_others(cells, at, shown, 1, others)
-        }
-    }
+    let operands = first_operands(shown.inst.operands(), count as usize);
+    put_list_apart(cells, at, shown, operands)
 }
 
 /// Writes the address that a relative branch leads to.
@@ -298,6 +318,7 @@ fn put_apart(cells: &mut [u8], at: usize, shown: &Shown) -> usize
         inst: shown.inst,
         bytes: shown.bytes,
         entry: shown.entry,
+        is_common: shown.is_common,
     };
     put_unlisted(cells, at, &shown)
 }

@@ -1,7 +1,7 @@
 //! What an encoding reads of REX.
 
 ghost use Rattle.std.specs.Prelude.{◌≡◌, ◌≤◌};
-ghost use Rattle.x86_objdump.specs.Text.Words.{is_high, is_reg_slot, is_high_reg, reads_r, names_memory, is_high_base, reads_b, is_new_byte, names_new_byte, has_some_bit, rex_is_read, live_rex_is_read};
+ghost use Rattle.x86_objdump.specs.Text.Words.{is_high, is_reg_slot, is_high_reg, reads_r, names_memory, is_high_base, reads_b, reads_x, is_new_byte, names_new_byte, has_some_bit, rex_is_read, live_rex_is_read};
 
 use crate::text::choices::reads_w;
 use crate::text::context::Context;
@@ -72,6 +72,14 @@ fn reads_b(context: &Context, inst: &Instruction) -> bool
             && !(inst.opcode() == Opcode::FNSTSW)
 }
 
+/// Whether X extends the index of a SIB.
+#[inline(always)]
+fn reads_x(context: &Context, inst: &Instruction) -> bool
+    ensures { result ≡ reads_x context.now inst.now }
+{
+    context.has_modrm && names_memory(inst) && context.modrm.rm_field() == 4
+}
+
 #[inline(always)]
 fn is_new_byte(operand: &Operand) -> bool
     ensures { result ≡ is_new_byte operand.now }
@@ -102,7 +110,7 @@ fn rex_is_read(context: &Context, inst: &Instruction, letter: u8, rex: PrefixRex
     ensures { result ≡ rex_is_read context.now inst.now letter rex }
 {
     (!rex.w() || reads_w(letter))
-        && (!rex.x() || context.has_sib)
+        && (!rex.x() || reads_x(context, inst))
         && (!rex.r() || reads_r(context, inst))
         && (!rex.b() || reads_b(context, inst))
         && (has_some_bit(rex) || names_new_byte(inst))

@@ -19,6 +19,8 @@ pub struct Shown<'a> {
     pub inst: &'a Instruction,
     pub bytes: &'a [u8],
     pub entry: &'a Entry,
+    /// Whether there is no prefix but a REX, as in most. Operands of others are written by calls.
+    pub is_common: bool,
 }
 
 /// The parts of the encoding.
